@@ -1,6 +1,47 @@
-//! The shared types of the controller, and the definitions that all contracts cite. It does nothing.
+//! The shared types of the controller and its geometry, and the definitions that all contracts cite. It keeps no
+//! state: it knows neither the cells of a die nor the rows of a page map.
 #![tactic(auto)]
 
+mod base;
+mod cell_law;
+mod contents;
+mod entry;
+mod head;
+mod items;
+mod kind;
+mod look;
 mod memory;
+mod place;
+mod policy_view;
+mod reply;
+mod row;
+mod shape;
+mod slot;
+mod stop;
+mod superblock;
+mod tag;
+mod trace;
+mod weak;
+mod word;
 
+pub use base::{BlockBase, ChannelBase};
+pub use cell_law::CellLaw;
+pub use contents::Contents;
+pub use entry::Entry;
+pub use head::ImageHead;
+pub use items::Items;
+pub use kind::Kind;
+pub use look::Look;
 pub use memory::Memory;
+pub use place::Place;
+pub use policy_view::{PolicyKind, PolicyView};
+pub use reply::{CallKind, RefreshReply, Reply};
+pub use row::Row;
+pub use shape::{Shape, ShapeFault};
+pub use slot::Slot;
+pub use stop::{ServeStop, StepStop};
+pub use superblock::{SbInfo, SbState};
+pub use tag::Tag;
+pub use trace::{Content, Trace, TraceCall, Verb};
+pub use weak::Weak;
+pub use word::Word;

@@ -1,0 +1,49 @@
+ghost use Rattle.std.specs.Prelude.{◌≡◌, ◌<◌, length, slice_get, vec_len};
+
+use std::marker::Model;
+
+/// A list that stands in a field of another type. Contracts see it as the list of its items, whatever room its
+/// `Vec` has. It is made from a `Vec` and gives it back without taking memory.
+#[derive(Debug, Drop)]
+pub struct Items<T> {
+    vec: Vec<T>,
+}
+
+impl<T> Model for Items<T> {
+    ghost use Rattle.std.specs.Prelude.{List};
+
+    ghost Value = { List T };
+
+    ghost view = { λ a. a.vec.items };
+}
+
+impl<T> Items<T> {
+    /// The list of what the `Vec` holds.
+    pub fn new(vec: Vec<T>) -> Items<T>
+        ensures { result ≡ vec.items }
+    {
+        Items { vec }
+    }
+
+    /// The `Vec`, with its room as it was.
+    pub fn into_vec(self) -> Vec<T>
+        ensures { result.items ≡ self }
+    {
+        let Items { vec } = self;
+        vec
+    }
+
+    /// The items as a slice.
+    pub fn as_slice(&self) -> &[T]
+        ensures { result.now ≡ self.now }
+    {
+        self.vec.as_slice()
+    }
+
+    /// The number of items.
+    pub fn len(&self) -> usize
+        ensures { result ≡ length self.now }
+    {
+        self.vec.len()
+    }
+}
