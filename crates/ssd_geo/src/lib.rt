@@ -4,6 +4,7 @@
 
 mod base;
 mod cell_law;
+mod code_examples;
 mod contents;
 mod entry;
 mod head;
@@ -26,6 +27,7 @@ mod word;
 
 pub use base::{BlockBase, ChannelBase};
 pub use cell_law::CellLaw;
+pub use code_examples::{example_bits, example_fault, example_word};
 pub use contents::Contents;
 pub use entry::Entry;
 pub use head::ImageHead;
