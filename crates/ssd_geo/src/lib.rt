@@ -3,6 +3,7 @@
 #![tactic(auto)]
 
 mod base;
+mod cell_examples;
 mod cell_law;
 mod code_examples;
 mod contents;
@@ -26,6 +27,7 @@ mod weak;
 mod word;
 
 pub use base::{BlockBase, ChannelBase};
+pub use cell_examples::{noise_from_zero, senses_of_a_byte};
 pub use cell_law::CellLaw;
 pub use code_examples::{example_bits, example_fault, example_word};
 pub use contents::Contents;
