@@ -1,28 +1,30 @@
 -- What levels do the cells of a page have, and what does a sense give? A single-level cell that is erased reads 1
 -- and one that is programmed reads 0 (Micheloni, Inside NAND Flash Memories); whole-number levels, noise and ageing
 -- are this project's own. Bit i of a byte list is bit i mod 8 of byte i div 8, lowest bit first.
-use Rattle.std.specs.Prelude.{ℕ, ◌+◌, ◌*◌, ◌/◌, ◌%◌, ◌^◌, ◌==◌, if◌then◌else◌, List, map, length, slice_index, slice_index_or, ℤ, pos, ◌+ℤ◌, ◌-ℤ◌, int_lt}
+use Rattle.std.specs.Prelude.{ℕ, ◌+◌, ◌*◌, ◌/◌, ◌%◌, ◌^◌, ◌==◌, if◌then◌else◌, List, [], ◌∷◌, map, length, slice_index, slice_index_or, ℤ, pos, negsuc, ◌+ℤ◌, ◌-ℤ◌, int_lt}
 use Rattle.std.specs.List.{range_with_len}
 use Rattle.std.specs.Int.{int_max}
-use Rattle.ssd_geo.specs.Noise.{noise_of_cell}
+use Rattle.ssd_geo.specs.Noise.{start_of_program, noise_of_cell}
+use Rattle.ssd_geo.specs.declared.cell_law.CellLaw.{CellLaw}
 
 -- bit i of a word
 abbrev pub bit_of_word : List ℕ → ℕ → ℕ
 bit_of_word word i = slice_index word (i / 8) / 2 ^ (i % 8) % 2
 
 -- the level that a program aims at: the erased one for bit 1, the programmed one for bit 0
-abbrev pub aim_of_bit : ℤ → ℤ → ℕ → ℤ
-aim_of_bit erased programmed bit = if bit == 1 then erased else programmed
+abbrev pub aim_of_bit : CellLaw → ℕ → ℤ
+aim_of_bit law bit = if bit == 1 then law.erased else law.programmed
 
--- the level of a cell as it is programmed: the aim of its bit and its noise
-abbrev pub fresh_level : ℤ → ℤ → ℕ → ℕ → List ℕ → ℕ → ℤ
-fresh_level erased programmed spread start word cell =
-    aim_of_bit erased programmed (bit_of_word word cell) +ℤ noise_of_cell spread start cell
+-- the level of a cell as a program leaves it: the aim of its bit and its noise, which the program's start gives
+abbrev pub fresh_level : CellLaw → ℕ → List ℕ → ℕ → ℤ
+fresh_level law start word cell =
+    aim_of_bit law (bit_of_word word cell) +ℤ noise_of_cell law.spread start cell
 
--- the levels of a page as a word is programmed into it: one cell for each bit
-abbrev pub fresh_levels : ℤ → ℤ → ℕ → ℕ → List ℕ → List ℤ
-fresh_levels erased programmed spread start word =
-    map (fresh_level erased programmed spread start word) (range_with_len 0 (8 * length word))
+-- the levels of a page as a program leaves it: one cell for each bit of the word. The page's place in the drive and
+-- the erases of its block give the noise.
+abbrev pub fresh_levels : CellLaw → ℕ → ℕ → List ℕ → List ℤ
+fresh_levels law place erases word =
+    map (fresh_level law (start_of_program law.seed place erases) word) (range_with_len 0 (8 * length word))
 
 -- a level after its block was aged by an amount: it falls towards the erased level, and never below it
 abbrev pub aged_level : ℤ → ℕ → ℤ → ℤ
@@ -52,3 +54,8 @@ sensed_byte at levels j =
 -- what a sense of a page at a level gives
 abbrev pub sensed : ℤ → List ℤ → List ℕ
 sensed at levels = map (sensed_byte at levels) (range_with_len 0 (length levels / 8))
+
+-- an example: the byte 05h in a page without noise, at the levels -100 and 100
+abbrev pub levels_of_five : List ℤ
+levels_of_five =
+    fresh_levels (record { erased = negsuc 99; programmed = pos 100; spread = 0; seed = 0 }) 0 0 (5 ∷ [])
