@@ -12,7 +12,7 @@ pub struct BlockBase {
 }
 
 /// A channel as an image has it, but for the cells of its dies.
-#[derive(Debug, Drop)]
+#[derive(Debug, Drop, PartialEq, Eq)]
 pub struct ChannelBase {
     /// The sizes of the drive, of its code and of its pages.
     pub shape: Shape,

@@ -1,7 +1,7 @@
 use crate::{CellLaw, Items, Shape, Weak};
 
 /// What an image tells before its contents.
-#[derive(Debug, Drop)]
+#[derive(Debug, Drop, PartialEq, Eq)]
 pub struct ImageHead {
     /// The sizes of the drive, of its code and of its pages.
     pub shape: Shape,

@@ -12,7 +12,7 @@ pub enum PolicyKind {
 }
 
 /// What a policy goes by.
-#[derive(Debug, Drop)]
+#[derive(Debug, Drop, PartialEq, Eq)]
 pub struct PolicyView {
     /// How it picks.
     pub kind: PolicyKind,

@@ -34,7 +34,7 @@ pub enum RefreshReply {
 }
 
 /// The answer of a call of the trace.
-#[derive(Debug, Drop)]
+#[derive(Debug, Drop, PartialEq, Eq)]
 pub enum Reply {
     /// The write, trim or ageing was made.
     Ok,

@@ -1,7 +1,7 @@
 use crate::{Items, Tag};
 
 /// The calls of a trace, in the order of its lines.
-#[derive(Debug, Drop)]
+#[derive(Debug, Drop, PartialEq, Eq)]
 pub struct Trace {
     /// The number of actors.
     pub actors: u8,
@@ -10,7 +10,7 @@ pub struct Trace {
 }
 
 /// One call of a trace.
-#[derive(Debug, Drop)]
+#[derive(Debug, Drop, PartialEq, Eq)]
 pub struct TraceCall {
     /// Its actor, and its number among that actor's calls.
     pub tag: Tag,
@@ -19,7 +19,7 @@ pub struct TraceCall {
 }
 
 /// What a call of a trace asks. A page is the host's number; dies are counted within their channel.
-#[derive(Debug, Drop)]
+#[derive(Debug, Drop, PartialEq, Eq)]
 pub enum Verb {
     /// Write the page.
     Write {
@@ -56,7 +56,7 @@ pub enum Verb {
 }
 
 /// The data of a write.
-#[derive(Debug, Drop)]
+#[derive(Debug, Drop, PartialEq, Eq)]
 pub enum Content {
     /// These bytes, and zeros after them up to the data bytes of a page.
     Listed { list: Items<u8> },
