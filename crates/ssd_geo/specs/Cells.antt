@@ -1,24 +1,20 @@
 -- What levels do the cells of a page have, and what does a sense give? A single-level cell that is erased reads 1
 -- and one that is programmed reads 0 (Micheloni, Inside NAND Flash Memories); whole-number levels, noise and ageing
--- are this project's own. Bit i of a byte list is bit i mod 8 of byte i div 8, lowest bit first.
-use Rattle.std.specs.Prelude.{ℕ, ◌+◌, ◌*◌, ◌/◌, ◌%◌, ◌^◌, ◌==◌, if◌then◌else◌, List, [], ◌∷◌, map, length, slice_index, slice_index_or, ℤ, pos, negsuc, ◌+ℤ◌, ◌-ℤ◌, int_lt}
+-- are this project's own.
+use Rattle.std.specs.Prelude.{ℕ, ◌*◌, Bool, if◌then◌else◌, List, [], ◌∷◌, map, length, ℤ, pos, negsuc, ◌+ℤ◌, ◌-ℤ◌, int_lt}
 use Rattle.std.specs.List.{range_with_len}
 use Rattle.std.specs.Int.{int_max}
+use Rattle.ssd_geo.specs.Bits.{bit_of, bytes_of}
 use Rattle.ssd_geo.specs.Noise.{start_of_program, noise_of_cell}
 use Rattle.ssd_geo.specs.declared.cell_law.CellLaw.{CellLaw}
 
--- bit i of a word
-abbrev pub bit_of_word : List ℕ → ℕ → ℕ
-bit_of_word word i = slice_index word (i / 8) / 2 ^ (i % 8) % 2
-
 -- the level that a program aims at: the erased one for bit 1, the programmed one for bit 0
-abbrev pub aim_of_bit : CellLaw → ℕ → ℤ
-aim_of_bit law bit = if bit == 1 then law.erased else law.programmed
+abbrev pub aim_of_bit : CellLaw → Bool → ℤ
+aim_of_bit law bit = if bit then law.erased else law.programmed
 
 -- the level of a cell as a program leaves it: the aim of its bit and its noise, which the program's start gives
 abbrev pub fresh_level : CellLaw → ℕ → List ℕ → ℕ → ℤ
-fresh_level law start word cell =
-    aim_of_bit law (bit_of_word word cell) +ℤ noise_of_cell law.spread start cell
+fresh_level law start word cell = aim_of_bit law (bit_of word cell) +ℤ noise_of_cell law.spread start cell
 
 -- the levels of a page as a program leaves it: one cell for each bit of the word. The page's place in the drive and
 -- the erases of its block give the noise.
@@ -31,29 +27,13 @@ abbrev pub aged_level : ℤ → ℕ → ℤ → ℤ
 aged_level erased amount level =
     if int_lt erased level then int_max erased (level -ℤ pos amount) else level
 
--- the level of cell i of a page
-abbrev pub level_of_cell : List ℤ → ℕ → ℤ
-level_of_cell levels cell = slice_index_or levels cell (pos 0)
+-- what a sense at a level reads in a cell: 1 exactly where the cell's level is less
+abbrev pub sensed_bit : ℤ → ℤ → Bool
+sensed_bit at level = int_lt level at
 
--- what a sense at a level gives of a cell's level: 1 exactly where the cell's is less
-abbrev pub sensed_bit : ℤ → ℤ → ℕ
-sensed_bit at level = if int_lt level at then 1 else 0
-
--- byte j of a sense
-abbrev pub sensed_byte : ℤ → List ℤ → ℕ → ℕ
-sensed_byte at levels j =
-    sensed_bit at (level_of_cell levels (8 * j))
-    + 2 * sensed_bit at (level_of_cell levels (8 * j + 1))
-    + 4 * sensed_bit at (level_of_cell levels (8 * j + 2))
-    + 8 * sensed_bit at (level_of_cell levels (8 * j + 3))
-    + 16 * sensed_bit at (level_of_cell levels (8 * j + 4))
-    + 32 * sensed_bit at (level_of_cell levels (8 * j + 5))
-    + 64 * sensed_bit at (level_of_cell levels (8 * j + 6))
-    + 128 * sensed_bit at (level_of_cell levels (8 * j + 7))
-
--- what a sense of a page at a level gives
+-- what a sense of a page at a level gives: the bit of each cell, in bytes
 abbrev pub sensed : ℤ → List ℤ → List ℕ
-sensed at levels = map (sensed_byte at levels) (range_with_len 0 (length levels / 8))
+sensed at levels = bytes_of (map (sensed_bit at) levels)
 
 -- an example: the byte 05h in a page without noise, at the levels -100 and 100
 abbrev pub levels_of_five : List ℤ
