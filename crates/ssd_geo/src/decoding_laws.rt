@@ -1,0 +1,16 @@
+ghost use Rattle.std.specs.Prelude.{ℕ, ℤ, List, All};
+ghost use Rattle.ssd_geo.specs.RowRule.{IsWithin, row_rule};
+ghost use Rattle.ssd_geo.specs.Decoding.{layer_worked};
+
+/// A check row that is given numbers from -127 to 127 tells each edge a number from -95 to 95.
+pub fn row_rule_is_bounded()
+    ensures { (q : List ℤ) → All (IsWithin 127) q → All (IsWithin 95) (row_rule q) }
+{}
+
+/// The numbers of the variables stay from -222 to 222 and those of the edges from -95 to 95, whatever the layer.
+pub fn layer_keeps_bounds()
+    ensures variables { (layer : List (ℕ × ℕ)) (z : ℕ) (p r : List ℤ) → All (IsWithin 222) p
+        → All (IsWithin 222) (layer_worked layer z (p, r)).0 }
+    ensures edges { (layer : List (ℕ × ℕ)) (z : ℕ) (p r : List ℤ) → All (IsWithin 95) r
+        → All (IsWithin 95) (layer_worked layer z (p, r)).1 }
+{}
