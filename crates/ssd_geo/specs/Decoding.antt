@@ -1,9 +1,12 @@
 -- What does the serial min-sum decoder leave, and what does it answer? Layered decoding after Hocevar (2004): check
 -- rows are worked one at a time, and each uses what the rows before it left. The clamp and the hard decision are this
 -- project's own.
-use Rattle.std.specs.Prelude.{ℕ, zero, suc, ◌+◌, ◌*◌, Bool, List, [], ◌∷◌, ◌++◌, map, length, take, drop, set, replicate, ℤ, pos, neg_ℤ, ◌+ℤ◌, ◌-ℤ◌, slice_index_or, sum_by, zip}
+use Rattle.std.specs.Prelude.{ℕ, zero, suc, ◌+◌, ◌*◌, Bool, List, [], ◌∷◌, ◌++◌, map, length, take, drop, set, replicate, ℤ, pos, neg_ℤ, ◌+ℤ◌, ◌-ℤ◌, slice_index_or, sum_by, zip, find, Option, option_map}
 use Rattle.std.specs.List.{range_with_len}
 use Rattle.std.specs.Int.{int_max, int_min}
+use Rattle.ssd_geo.specs.BaseMatrix.{BaseMatrix, layer_of}
+use Rattle.ssd_geo.specs.Bits.{bytes_of}
+use Rattle.ssd_geo.specs.Codewords.{is_codeword}
 use Rattle.ssd_geo.specs.Layer.{variables_of}
 use Rattle.ssd_geo.specs.RowRule.{row_rule, is_negative}
 
@@ -64,11 +67,27 @@ iterated (layer ∷ layers) z s =
 abbrev pub edge_count : List (List (ℕ × ℕ)) → ℕ → ℕ
 edge_count layers z = sum_by (λ layer. length layer * z) layers
 
+-- the layers of a code, one for each base row
+abbrev pub layers_of : BaseMatrix → List (List (ℕ × ℕ))
+layers_of m = map (layer_of m) (range_with_len 0 m.mb)
+
 -- the numbers of the variables and of the edges after n iterations on these values; each edge begins with 0
-abbrev pub after_iterations : List (List (ℕ × ℕ)) → ℕ → List ℤ → ℕ → List ℤ × List ℤ
-after_iterations layers z values zero = (values, replicate (edge_count layers z) (pos 0))
-after_iterations layers z values (suc n) = iterated layers z (after_iterations layers z values n)
+abbrev pub after_iterations : BaseMatrix → List ℤ → ℕ → List ℤ × List ℤ
+after_iterations m values zero = (values, replicate (edge_count (layers_of m) m.z) (pos 0))
+after_iterations m values (suc n) = iterated (layers_of m) m.z (after_iterations m values n)
 
 -- the hard decision: a bit is 1 exactly where its variable's number is below 0
 abbrev pub decided : List ℤ → List Bool
 decided p = map is_negative p
+
+-- the hard decision after n iterations on these values
+abbrev pub decided_after : BaseMatrix → List ℤ → ℕ → List Bool
+decided_after m values n = decided (after_iterations m values n).0
+
+-- the least number of iterations, up to a limit, after which the hard decision is a codeword
+abbrev pub iterations_needed : BaseMatrix → ℕ → List ℤ → Option ℕ
+iterations_needed m limit values = find (λ n. is_codeword m (decided_after m values n)) (range_with_len 0 (limit + 1))
+
+-- what the decoder answers: that number and the codeword, as bytes, or that there is none up to the limit
+abbrev pub decode : BaseMatrix → ℕ → List ℤ → Option (ℕ × List ℕ)
+decode m limit values = option_map (λ n. (n, bytes_of (decided_after m values n))) (iterations_needed m limit values)
