@@ -1,0 +1,27 @@
+-- Which calls of a source or a sink in memory fail? Those whose number, counted from 1, is listed. The count of
+-- calls stays at its greatest value: the call after that has a number that no list of u64 has.
+use Rattle.std.specs.Prelude.{ℕ, ◌+◌, ◌==◌, Bool, List, if◌then◌else◌}
+use Rattle.std.specs.List.{list_any}
+use Rattle.ssd_geo.specs.Faults.{raised}
+
+-- the numbers of the calls that fail, how many calls there were, and how many of them failed
+pub record Calls : Type 0 where
+  pub failing : List ℕ
+  pub done : ℕ
+  pub faults : ℕ
+
+-- no call yet
+abbrev pub no_calls : List ℕ → Calls
+no_calls failing = record { failing = failing; done = 0; faults = 0 }
+
+-- the number of the next call is listed
+abbrev pub next_fails : Calls → Bool
+next_fails calls = list_any (λ number. number == calls.done + 1) calls.failing
+
+-- one call later, which failed or not
+abbrev pub counted : Calls → Bool → Calls
+counted calls failed = record {
+  failing = calls.failing;
+  done = raised calls.done 1;
+  faults = if failed then raised calls.faults 1 else calls.faults;
+}

@@ -1,0 +1,3 @@
+/// A call of a source or a sink failed, and its count of faults rose.
+#[derive(Clone, Copy, Debug, PartialEq, Eq)]
+pub struct Failed;

@@ -1,0 +1,80 @@
+// A sink in memory with room for so many bytes, whose listed calls fail.
+ghost use Rattle.std.specs.Prelude.{◌≡◌, ◌-◌, ◌<◌, [], length, min, is_err, Some, IfOk};
+ghost use Rattle.std.specs.Io.KnownBytes.{WriteAppends};
+ghost use Rattle.ssd_geo.specs.Faults.{HasCause};
+ghost use Rattle.ssd_io.specs.Listed.{no_calls};
+ghost use Rattle.ssd_io.specs.Sink.{TakesSome};
+ghost use Rattle.ssd_io.specs.Store.{refuses, after_write};
+
+use crate::listed_calls::ListedCalls;
+use crate::{Failed, Sink};
+use ssd_geo::Memory;
+use std::alloc::Global;
+use std::marker::Model;
+
+/// Bytes in memory, with room for so many. The calls whose number, counted from 1, is listed fail, and those that
+/// find no room; they change nothing but the counts. Contracts see it as `Store`.
+#[derive(Drop)]
+pub struct MemSink {
+    bytes: Vec<u8>,
+    room: usize,
+    calls: ListedCalls,
+}
+
+impl Model for MemSink {
+    ghost use Rattle.std.specs.Prelude.{◌≤◌, vec_len, vec_capacity};
+    ghost use Rattle.ssd_io.specs.Store.{Store};
+
+    ghost Value = { Store };
+
+    ghost view = { λ s. record { written = s.bytes.items; room = s.room; calls = s.calls } };
+
+    ghost invariant = { λ s. (vec_len s.bytes ≤ s.room) × (s.room ≤ vec_capacity s.bytes) };
+}
+
+impl MemSink {
+    /// Takes the memory for the room. The lists that it was given are dropped where there is none.
+    pub fn new(alloc: Global, failing: Vec<u64>, room: usize) -> Result<MemSink, Memory>
+        ensures written { IfOk result (λ sink. sink.written ≡ []) }
+        ensures room { IfOk result (λ sink. sink.room ≡ room) }
+        ensures calls { IfOk result (λ sink. sink.calls ≡ no_calls failing.items) }
+    {
+        let bytes = Vec::with_capacity(alloc, room).map_err(|_| Memory)?;
+        Ok(MemSink {
+            bytes,
+            room,
+            calls: ListedCalls::new(failing),
+        })
+    }
+
+    /// What was written.
+    pub fn bytes(&self) -> &[u8]
+        ensures { result.now ≡ self.now.written }
+    {
+        &self.bytes
+    }
+}
+
+impl Sink for MemSink {
+    ghost written = { λ s. Some s.written };
+
+    ghost faults = { λ s. s.calls.faults };
+
+    fn write(&mut self, piece: &[u8]) -> Result<usize, Failed>
+        requires { 0 < length piece.now }
+        ensures bound { TakesSome result piece.now }
+        ensures bytes { WriteAppends (Some self.old.written) (Some self.new.written) result piece.now }
+        ensures cause { HasCause self.old.calls.faults self.new.calls.faults result }
+
+        // Which calls fail, and how much the others take.
+        ensures fails { is_err result ≡ refuses self.old }
+        ensures count { IfOk result (λ n. n ≡ min (length piece.now) (self.old.room - length self.old.written)) }
+        ensures after { self.new ≡ after_write self.old piece.now }
+    {
+        let left = self.room - self.bytes.len();
+        self.calls.count(left == 0)?;
+        let taken = piece.len().min(left);
+        self.bytes.extend_from_slice(&piece[..taken]).unwrap();
+        Ok(taken)
+    }
+}

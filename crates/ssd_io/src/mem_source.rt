@@ -1,0 +1,62 @@
+// A source in memory whose listed calls fail.
+ghost use Rattle.std.specs.Prelude.{◌≡◌, ◌++◌, length, take, drop, min, is_err, Some, IfOk};
+ghost use Rattle.std.specs.Io.{ReadsAtMost};
+ghost use Rattle.std.specs.Io.KnownBytes.{ReadConsumes};
+ghost use Rattle.ssd_geo.specs.Faults.{HasCause};
+ghost use Rattle.ssd_io.specs.Listed.{no_calls, next_fails};
+ghost use Rattle.ssd_io.specs.Feed.{given, after_read};
+
+use crate::listed_calls::ListedCalls;
+use crate::unread::Unread;
+use crate::{Failed, Source};
+use std::marker::Model;
+
+/// Bytes in memory. The calls whose number, counted from 1, is listed fail and change nothing but the counts.
+/// Contracts see it as `Feed`.
+#[derive(Drop)]
+pub struct MemSource {
+    unread: Unread,
+    calls: ListedCalls,
+}
+
+impl Model for MemSource {
+    ghost use Rattle.ssd_io.specs.Feed.{Feed};
+
+    ghost Value = { Feed };
+
+    ghost view = { λ s. record { left = s.unread; calls = s.calls } };
+}
+
+impl MemSource {
+    pub fn new(bytes: Vec<u8>, failing: Vec<u64>) -> MemSource
+        ensures bytes { result.left ≡ bytes.items }
+        ensures calls { result.calls ≡ no_calls failing.items }
+    {
+        MemSource {
+            unread: Unread::new(bytes),
+            calls: ListedCalls::new(failing),
+        }
+    }
+}
+
+impl Source for MemSource {
+    ghost left = { λ s. Some s.left };
+
+    ghost faults = { λ s. s.calls.faults };
+
+    fn read(&mut self, into: &mut [u8]) -> Result<usize, Failed>
+        ensures bound { ReadsAtMost result into.new }
+        ensures bytes { ReadConsumes (Some self.old.left) (Some self.new.left) result into.new }
+        ensures cause { HasCause self.old.calls.faults self.new.calls.faults result }
+
+        // Which calls fail, and how much the others give.
+        ensures fails { is_err result ≡ next_fails self.old.calls }
+        ensures count { IfOk result (λ n. n ≡ min (length into.old) (length self.old.left)) }
+        ensures copied { let n = given self.old (length into.old) in
+            into.new ≡ take n self.old.left ++ drop n into.old }
+        ensures after { self.new ≡ after_read self.old (length into.old) }
+    {
+        self.calls.count(false)?;
+        Ok(self.unread.give(into))
+    }
+}

@@ -1,0 +1,41 @@
+// A source over one of std's readers.
+ghost use Rattle.std.specs.Prelude.{◌≡◌};
+ghost use Rattle.std.specs.Io.{ReadsAtMost};
+
+use crate::{Failed, Source};
+use std::io::Read;
+
+/// A reader as a source: each call is one `read`, and one that fails counts a fault. It tells the bytes that the
+/// reader tells.
+#[derive(Drop)]
+pub struct ReadSource<R: Read> {
+    reader: R,
+    faults: u64,
+}
+
+impl<R: Read> ReadSource<R> {
+    ghost use Rattle.ssd_io.specs.Adapters.{reader_of, faults_read};
+
+    pub fn new(reader: R) -> ReadSource<R>
+        ensures reader { reader_of result ≡ reader }
+        ensures faults { faults_read result ≡ 0 }
+    {
+        ReadSource { reader, faults: 0 }
+    }
+}
+
+impl<R: Read> Source for ReadSource<R> {
+    ghost left = { λ s. R.remaining s.reader };
+
+    ghost faults = { λ s. s.faults };
+
+    fn read(&mut self, into: &mut [u8]) -> Result<usize, Failed> {
+        match self.reader.read(into) {
+            Ok(given) => Ok(given),
+            Err(_) => {
+                self.faults = self.faults.saturating_add(1);
+                Err(Failed)
+            }
+        }
+    }
+}
