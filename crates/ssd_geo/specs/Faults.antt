@@ -8,12 +8,12 @@ abbrev pub greatest_count : ℕ
 greatest_count = 2 ^ 64 - 1
 
 -- a count after some more faults
-abbrev pub raised : ℕ → ℕ → ℕ
-raised before faults = min (before + faults) greatest_count
+abbrev pub count_after : ℕ → ℕ → ℕ
+count_after before faults = min (before + faults) greatest_count
 
 -- the count rose by at least so many faults
 abbrev pub RoseBy : ℕ → ℕ → ℕ → Type 0
-RoseBy faults before now = raised before faults ≤ now
+RoseBy faults before now = count_after before faults ≤ now
 
 -- the count rose
 abbrev pub Rose : ℕ → ℕ → Type 0

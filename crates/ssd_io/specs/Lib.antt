@@ -1,5 +1,5 @@
 pub mod Adapters
-pub mod Feed
-pub mod Listed
-pub mod Sink
-pub mod Store
+pub mod ListedCalls
+pub mod MemSink
+pub mod MemSource
+pub mod Pieces

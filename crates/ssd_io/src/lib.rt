@@ -21,3 +21,6 @@ pub use sink::{Sink, write_all};
 pub use source::Source;
 pub use sure_source::SureSource;
 pub use write_sink::WriteSink;
+
+#[cfg(test)]
+mod tests;

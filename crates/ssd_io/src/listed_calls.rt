@@ -1,7 +1,7 @@
 // Calls that are counted, and those of them that fail.
 ghost use Rattle.std.specs.Prelude.{◌≡◌, ◌||◌, is_err};
 ghost use Rattle.ssd_geo.specs.Faults.{HasCause};
-ghost use Rattle.ssd_io.specs.Listed.{no_calls, next_fails, counted};
+ghost use Rattle.ssd_io.specs.ListedCalls.{no_calls, is_next_listed, calls_after};
 
 use crate::Failed;
 use std::marker::Model;
@@ -15,7 +15,7 @@ pub struct ListedCalls {
 }
 
 impl Model for ListedCalls {
-    ghost use Rattle.ssd_io.specs.Listed.{Calls};
+    ghost use Rattle.ssd_io.specs.ListedCalls.{Calls};
 
     ghost Value = { Calls };
 
@@ -36,8 +36,8 @@ impl ListedCalls {
 
     /// Counts a call. It fails where its number is listed, and where it is refused anyway.
     pub fn count(&mut self, refused: bool) -> Result<(), Failed>
-        ensures fails { is_err result ≡ (refused || next_fails self.old) }
-        ensures after { self.new ≡ counted self.old (refused || next_fails self.old) }
+        ensures fails { is_err result ≡ (refused || is_next_listed self.old) }
+        ensures after { self.new ≡ calls_after self.old (refused || is_next_listed self.old) }
         ensures cause { HasCause self.old.faults self.new.faults result }
     {
         let failed = refused || self.is_next_listed();
@@ -50,9 +50,11 @@ impl ListedCalls {
     }
 
     fn is_next_listed(&self) -> bool
-        ensures { result ≡ next_fails self.now }
+        ensures { result ≡ is_next_listed self.now }
     {
         let number = u128::from(self.done) + 1;
-        self.failing.iter().any(|listed| u128::from(*listed) == number)
+        self.failing
+            .iter()
+            .any(|listed| u128::from(*listed) == number)
     }
 }

@@ -2,9 +2,9 @@
 ghost use Rattle.std.specs.Prelude.{◌≡◌, ◌-◌, ◌<◌, [], length, min, is_err, Some, IfOk};
 ghost use Rattle.std.specs.Io.KnownBytes.{WriteAppends};
 ghost use Rattle.ssd_geo.specs.Faults.{HasCause};
-ghost use Rattle.ssd_io.specs.Listed.{no_calls};
-ghost use Rattle.ssd_io.specs.Sink.{TakesSome};
-ghost use Rattle.ssd_io.specs.Store.{refuses, after_write};
+ghost use Rattle.ssd_io.specs.ListedCalls.{no_calls};
+ghost use Rattle.ssd_io.specs.Pieces.{TakesSome};
+ghost use Rattle.ssd_io.specs.MemSink.{is_next_refused, sink_after};
 
 use crate::listed_calls::ListedCalls;
 use crate::{Failed, Sink};
@@ -13,7 +13,7 @@ use std::alloc::Global;
 use std::marker::Model;
 
 /// Bytes in memory, with room for so many. The calls whose number, counted from 1, is listed fail, and those that
-/// find no room; they change nothing but the counts. Contracts see it as `Store`.
+/// find no room; they change nothing but the counts. Contracts see it as `MemSinkView`.
 #[derive(Drop)]
 pub struct MemSink {
     bytes: Vec<u8>,
@@ -23,9 +23,9 @@ pub struct MemSink {
 
 impl Model for MemSink {
     ghost use Rattle.std.specs.Prelude.{◌≤◌, vec_len, vec_capacity};
-    ghost use Rattle.ssd_io.specs.Store.{Store};
+    ghost use Rattle.ssd_io.specs.MemSink.{MemSinkView};
 
-    ghost Value = { Store };
+    ghost Value = { MemSinkView };
 
     ghost view = { λ s. record { written = s.bytes.items; room = s.room; calls = s.calls } };
 
@@ -67,9 +67,9 @@ impl Sink for MemSink {
         ensures cause { HasCause self.old.calls.faults self.new.calls.faults result }
 
         // Which calls fail, and how much the others take.
-        ensures fails { is_err result ≡ refuses self.old }
+        ensures fails { is_err result ≡ is_next_refused self.old }
         ensures count { IfOk result (λ n. n ≡ min (length piece.now) (self.old.room - length self.old.written)) }
-        ensures after { self.new ≡ after_write self.old piece.now }
+        ensures after { self.new ≡ sink_after self.old piece.now }
     {
         let left = self.room - self.bytes.len();
         self.calls.count(left == 0)?;

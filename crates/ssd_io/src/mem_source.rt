@@ -3,8 +3,8 @@ ghost use Rattle.std.specs.Prelude.{◌≡◌, ◌++◌, length, take, drop, min
 ghost use Rattle.std.specs.Io.{ReadsAtMost};
 ghost use Rattle.std.specs.Io.KnownBytes.{ReadConsumes};
 ghost use Rattle.ssd_geo.specs.Faults.{HasCause};
-ghost use Rattle.ssd_io.specs.Listed.{no_calls, next_fails};
-ghost use Rattle.ssd_io.specs.Feed.{given, after_read};
+ghost use Rattle.ssd_io.specs.ListedCalls.{no_calls, is_next_listed};
+ghost use Rattle.ssd_io.specs.MemSource.{given_count, source_after};
 
 use crate::listed_calls::ListedCalls;
 use crate::unread::Unread;
@@ -12,7 +12,7 @@ use crate::{Failed, Source};
 use std::marker::Model;
 
 /// Bytes in memory. The calls whose number, counted from 1, is listed fail and change nothing but the counts.
-/// Contracts see it as `Feed`.
+/// Contracts see it as `MemSourceView`.
 #[derive(Drop)]
 pub struct MemSource {
     unread: Unread,
@@ -20,9 +20,9 @@ pub struct MemSource {
 }
 
 impl Model for MemSource {
-    ghost use Rattle.ssd_io.specs.Feed.{Feed};
+    ghost use Rattle.ssd_io.specs.MemSource.{MemSourceView};
 
-    ghost Value = { Feed };
+    ghost Value = { MemSourceView };
 
     ghost view = { λ s. record { left = s.unread; calls = s.calls } };
 }
@@ -50,11 +50,11 @@ impl Source for MemSource {
         ensures cause { HasCause self.old.calls.faults self.new.calls.faults result }
 
         // Which calls fail, and how much the others give.
-        ensures fails { is_err result ≡ next_fails self.old.calls }
+        ensures fails { is_err result ≡ is_next_listed self.old.calls }
         ensures count { IfOk result (λ n. n ≡ min (length into.old) (length self.old.left)) }
-        ensures copied { let n = given self.old (length into.old) in
+        ensures copied { let n = given_count self.old (length into.old) in
             into.new ≡ take n self.old.left ++ drop n into.old }
-        ensures after { self.new ≡ after_read self.old (length into.old) }
+        ensures after { self.new ≡ source_after self.old (length into.old) }
     {
         self.calls.count(false)?;
         Ok(self.unread.give(into))

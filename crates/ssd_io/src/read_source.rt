@@ -1,6 +1,8 @@
 // A source over one of std's readers.
-ghost use Rattle.std.specs.Prelude.{◌≡◌};
+ghost use Rattle.std.specs.Prelude.{◌≡◌, is_err, if◌then◌else◌};
 ghost use Rattle.std.specs.Io.{ReadsAtMost};
+ghost use Rattle.std.specs.Io.KnownBytes.{ReadConsumes};
+ghost use Rattle.ssd_geo.specs.Faults.{HasCause, count_after};
 
 use crate::{Failed, Source};
 use std::io::Read;
@@ -25,11 +27,21 @@ impl<R: Read> ReadSource<R> {
 }
 
 impl<R: Read> Source for ReadSource<R> {
+    ghost use Rattle.ssd_io.specs.Adapters.{reader_of, faults_read};
+
     ghost left = { λ s. R.remaining s.reader };
 
     ghost faults = { λ s. s.faults };
 
-    fn read(&mut self, into: &mut [u8]) -> Result<usize, Failed> {
+    fn read(&mut self, into: &mut [u8]) -> Result<usize, Failed>
+        ensures bound { ReadsAtMost result into.new }
+        ensures bytes { ReadConsumes (R.remaining (reader_of self.old)) (R.remaining (reader_of self.new)) result into.new }
+        ensures cause { HasCause (faults_read self.old) (faults_read self.new) result }
+
+        // The count rises by one at a failure, and only there.
+        ensures counted { let before = faults_read self.old in
+            faults_read self.new ≡ (if is_err result then count_after before 1 else before) }
+    {
         match self.reader.read(into) {
             Ok(given) => Ok(given),
             Err(_) => {

@@ -2,7 +2,7 @@
 ghost use Rattle.std.specs.Prelude.{◌≡◌, ℕ, ◌<◌, List, [], length, Option, OnOk, OnErr, Ok};
 ghost use Rattle.std.specs.Io.KnownBytes.{Appends, WriteAppends};
 ghost use Rattle.ssd_geo.specs.Faults.{HasCause};
-ghost use Rattle.ssd_io.specs.Sink.{TakesSome, AppendsFront};
+ghost use Rattle.ssd_io.specs.Pieces.{TakesSome, AppendsFront};
 
 use crate::Failed;
 

@@ -1,5 +1,8 @@
 // A sink over one of std's writers.
-ghost use Rattle.std.specs.Prelude.{◌≡◌};
+ghost use Rattle.std.specs.Prelude.{◌≡◌, ◌<◌, length, is_err, if◌then◌else◌};
+ghost use Rattle.std.specs.Io.KnownBytes.{WriteAppends};
+ghost use Rattle.ssd_geo.specs.Faults.{HasCause, count_after};
+ghost use Rattle.ssd_io.specs.Pieces.{TakesSome};
 
 use crate::{Failed, Sink};
 use std::io::Write;
@@ -24,11 +27,22 @@ impl<W: Write> WriteSink<W> {
 }
 
 impl<W: Write> Sink for WriteSink<W> {
+    ghost use Rattle.ssd_io.specs.Adapters.{writer_of, faults_written};
+
     ghost written = { λ s. W.contents s.writer };
 
     ghost faults = { λ s. s.faults };
 
-    fn write(&mut self, piece: &[u8]) -> Result<usize, Failed> {
+    fn write(&mut self, piece: &[u8]) -> Result<usize, Failed>
+        requires { 0 < length piece.now }
+        ensures bound { TakesSome result piece.now }
+        ensures bytes { WriteAppends (W.contents (writer_of self.old)) (W.contents (writer_of self.new)) result piece.now }
+        ensures cause { HasCause (faults_written self.old) (faults_written self.new) result }
+
+        // The count rises by one at a failure, and only there.
+        ensures counted { let before = faults_written self.old in
+            faults_written self.new ≡ (if is_err result then count_after before 1 else before) }
+    {
         match self.writer.write(piece) {
             Ok(taken) if taken > 0 => Ok(taken),
             _ => {
