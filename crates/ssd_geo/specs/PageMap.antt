@@ -1,9 +1,13 @@
 -- Which rows of a page map name a slot, and which slots of a superblock are live? Each definition takes the rows of
 -- one channel as a list, in the order of their numbers. A page is live where a row names its slot.
-use Rattle.std.specs.Prelude.{ℕ, ◌==◌, nat_lt, Bool, true, false, ◌&&◌, Option, Some, None, option_map, List, [], ◌∷◌, count_by, position, filter_map, fold, min}
+use Rattle.std.specs.Prelude.{ℕ, ◌==◌, nat_lt, Bool, true, false, ◌&&◌, IsTrue, Option, Some, None, option_map, List, [], ◌∷◌, count_by, position, filter_map, fold, min, slice_index_or, ◌≡◌}
 use Rattle.ssd_geo.specs.declared.row.Row.{Row}
 use Rattle.ssd_geo.specs.declared.row.Row.TheVariants.{Empty, Lost, Page}
 use Rattle.ssd_geo.specs.declared.slot.Slot.{Slot}
+
+-- the row with this number
+abbrev pub row_at : List Row → ℕ → Row
+row_at rows row = slice_index_or rows row Empty
 
 -- whether a slot is this one
 abbrev pub is_slot : Slot → Slot → Bool
@@ -57,8 +61,19 @@ names_within superblocks slots Empty = true
 names_within superblocks slots Lost = true
 names_within superblocks slots (Page named serial) = nat_lt named.sb superblocks && nat_lt named.index slots
 
--- how many rows name the slot of a row: none where it names none
-abbrev pub count_of_owners : List Row → Row → ℕ
-count_of_owners rows Empty = 0
-count_of_owners rows Lost = 0
-count_of_owners rows (Page named serial) = count_by (names_slot named) rows
+-- each row that names a slot names one of these superblocks, below this number of slots
+abbrev pub NameWithin : ℕ → ℕ → List Row → Type 0
+NameWithin superblocks slots rows = (row : ℕ) → IsTrue (names_within superblocks slots (row_at rows row))
+
+-- no row but this one names the slot that a row's new value names
+abbrev pub NoOtherNames : List Row → ℕ → Row → Type 0
+NoOtherNames rows row Empty = Unit {0}
+NoOtherNames rows row Lost = Unit {0}
+NoOtherNames rows row (Page named serial) =
+    (other : ℕ) → IsTrue (names_slot named (row_at rows other)) → other ≡ row
+
+-- no two rows name one slot
+abbrev pub NameApart : List Row → Type 0
+NameApart rows =
+    (slot : Slot) (row other : ℕ) → IsTrue (names_slot slot (row_at rows row))
+    → IsTrue (names_slot slot (row_at rows other)) → row ≡ other
