@@ -1,10 +1,18 @@
 -- Which sizes may a drive have? The limits are this project's own: they bound memory and keep every number of a
 -- page in its type.
-use Rattle.std.specs.Prelude.{ℕ, ◌≡◌, ◌+◌, ◌-◌, ◌*◌, ◌/◌, ◌%◌, ◌^◌, ◌≤◌}
+use Rattle.std.specs.Prelude.{ℕ, ◌≡◌, ◌+◌, ◌-◌, ◌*◌, ◌/◌, ◌%◌, ◌^◌, ◌≤◌, ◌==◌, nat_le, Bool, not, ◌&&◌, List, [], ◌∷◌, Option, position}
 
 -- the cells of all channels
 abbrev pub cells_of : ℕ → ℕ → ℕ → ℕ → ℕ → ℕ → ℕ
 cells_of channels dies superblocks pages z nb = channels * dies * superblocks * pages * (nb * z)
+
+-- the bytes of a word: nb blocks of z bits
+abbrev pub word_bytes_of : ℕ → ℕ → ℕ
+word_bytes_of nb z = nb * z / 8
+
+-- the bytes of a word's payload: the blocks that aren't parity
+abbrev pub payload_bytes_of : ℕ → ℕ → ℕ → ℕ
+payload_bytes_of mb nb z = (nb - mb) * z / 8
 
 -- the sizes of a drive are within the limits, with no factory bad superblock counted
 pub record IsWithinLimits (channels dies superblocks pages z mb nb bytes rows : ℕ) : Type 0 where
@@ -26,6 +34,32 @@ pub record IsWithinLimits (channels dies superblocks pages z mb nb bytes rows : 
   pub whole_word_bytes : nb * z % 8 ≡ 0
   pub cells_high : cells_of channels dies superblocks pages z nb ≤ 2 ^ 28
   pub bytes_low : 1 ≤ bytes
-  pub bytes_high : bytes + 16 ≤ (nb - mb) * z / 8
+  pub bytes_high : bytes + 16 ≤ payload_bytes_of mb nb z
   pub rows_low : 1 ≤ rows
   pub rows_high : rows ≤ (superblocks - 2) * (dies - 1) * pages
+
+-- a number is at least the low one and at most the high one
+abbrev pub is_between : ℕ → ℕ → ℕ → Bool
+is_between low high n = nat_le low n && nat_le n high
+
+-- whether each size is in its range, in the order of the sizes. The whole bytes and the cells count with nb.
+abbrev pub ranges_kept : ℕ → ℕ → ℕ → ℕ → ℕ → ℕ → ℕ → ℕ → ℕ → List Bool
+ranges_kept channels dies superblocks pages z mb nb bytes rows =
+    is_between 1 8 channels
+    ∷ is_between 3 8 dies
+    ∷ is_between 4 256 superblocks
+    ∷ is_between 2 256 pages
+    ∷ is_between 4 1024 z
+    ∷ is_between 3 16 mb
+    ∷ (is_between (mb + 1) 128 nb
+        && (nb - mb) * z % 8 == 0
+        && nb * z % 8 == 0
+        && nat_le (cells_of channels dies superblocks pages z nb) (2 ^ 28))
+    ∷ is_between 1 (payload_bytes_of mb nb z - 16) bytes
+    ∷ is_between 1 ((superblocks - 2) * (dies - 1) * pages) rows
+    ∷ []
+
+-- the first size that isn't in its range, counted from 0
+abbrev pub first_fault : ℕ → ℕ → ℕ → ℕ → ℕ → ℕ → ℕ → ℕ → ℕ → Option ℕ
+first_fault channels dies superblocks pages z mb nb bytes rows =
+    position not (ranges_kept channels dies superblocks pages z mb nb bytes rows)

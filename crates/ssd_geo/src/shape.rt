@@ -1,4 +1,9 @@
-ghost use Rattle.ssd_geo.specs.Limits.{IsWithinLimits};
+ghost use Rattle.std.specs.Prelude.{◌≡◌, ◌↔◌, ◌*◌, ◌-◌, ◌<◌, ◌≤◌, IsOk, IfOk, IfErr, Some};
+ghost use Rattle.ssd_geo.specs.Limits.{IsWithinLimits, first_fault, is_between, payload_bytes_of, word_bytes_of};
+ghost use Rattle.ssd_geo.specs.Stripe.{place_of_parity, place_of_slot};
+ghost use Rattle.ssd_geo.specs.Superblock.{slots_of};
+
+use crate::{Place, Slot};
 
 /// The sizes of the drive, of its code and of its pages. They are within the limits, with no factory bad
 /// superblock counted.
@@ -30,4 +35,146 @@ pub struct Shape {
 pub struct ShapeFault {
     /// The argument's number.
     pub field: u8,
+}
+
+impl Shape {
+    ghost use Rattle.ssd_geo.specs.Shape.{HasSizes};
+
+    /// The shape of these sizes.
+    pub fn new(
+        channels: u8,
+        dies: u8,
+        superblocks: u16,
+        pages: u16,
+        z: u16,
+        mb: u8,
+        nb: u8,
+        bytes: u32,
+        rows: u32,
+    ) -> Result<Shape, ShapeFault>
+        ensures within { IsOk result ↔ IsWithinLimits channels dies superblocks pages z mb nb bytes rows }
+        ensures sizes { IfOk result (λ s. HasSizes s channels dies superblocks pages z mb nb bytes rows) }
+        ensures fault {
+            IfErr result (λ e. first_fault channels dies superblocks pages z mb nb bytes rows ≡ Some e.field)
+        }
+    {
+        if !is_in_range(1, channels as u32, 8) {
+            return Err(ShapeFault { field: 0 });
+        }
+        if !is_in_range(3, dies as u32, 8) {
+            return Err(ShapeFault { field: 1 });
+        }
+        if !is_in_range(4, superblocks as u32, 256) {
+            return Err(ShapeFault { field: 2 });
+        }
+        if !is_in_range(2, pages as u32, 256) {
+            return Err(ShapeFault { field: 3 });
+        }
+        if !is_in_range(4, z as u32, 1024) {
+            return Err(ShapeFault { field: 4 });
+        }
+        if !is_in_range(3, mb as u32, 16) {
+            return Err(ShapeFault { field: 5 });
+        }
+        if !is_in_range(mb as u32 + 1, nb as u32, 128) {
+            return Err(ShapeFault { field: 6 });
+        }
+        let word_bits = nb as u32 * z as u32;
+        let payload_bits = (nb - mb) as u32 * z as u32;
+        if payload_bits % 8 != 0
+            || word_bits % 8 != 0
+            || cells(channels, dies, superblocks, pages, word_bits) > 1 << 28
+        {
+            return Err(ShapeFault { field: 6 });
+        }
+        // The head of a page takes 16 bytes of its payload.
+        if bytes < 1 || payload_bits / 8 < 17 || bytes > payload_bits / 8 - 16 {
+            return Err(ShapeFault { field: 7 });
+        }
+        // Two superblocks are kept for collections.
+        if !is_in_range(1, rows, (superblocks as u32 - 2) * (dies as u32 - 1) * pages as u32) {
+            return Err(ShapeFault { field: 8 });
+        }
+        Ok(Shape {
+            channels,
+            dies,
+            superblocks,
+            pages,
+            z,
+            mb,
+            nb,
+            bytes,
+            rows,
+        })
+    }
+
+    /// How many data slots a superblock has.
+    pub fn slots(&self) -> u32
+        ensures { result ≡ slots_of self.now.pages self.now.dies }
+    {
+        self.pages as u32 * (self.dies as u32 - 1)
+    }
+
+    /// How many bytes a word has, which are those of a page.
+    pub fn word_bytes(&self) -> usize
+        ensures bytes { result ≡ word_bytes_of self.now.nb self.now.z }
+        ensures bits { 8 * result ≡ self.now.nb * self.now.z }
+    {
+        self.nb as usize * self.z as usize / 8
+    }
+
+    /// How many bytes a word's payload has.
+    pub fn payload_bytes(&self) -> usize
+        ensures bytes { result ≡ payload_bytes_of self.now.mb self.now.nb self.now.z }
+        ensures bits { 8 * result ≡ (self.now.nb - self.now.mb) * self.now.z }
+    {
+        (self.nb - self.mb) as usize * self.z as usize / 8
+    }
+
+    /// The page where a slot's word stands.
+    pub fn place_of(&self, slot: Slot) -> Place
+        requires superblock { slot.sb < self.now.superblocks }
+        requires index { slot.index < slots_of self.now.pages self.now.dies }
+        ensures { result ≡ place_of_slot self.now.dies slot }
+    {
+        let data = self.dies as u32 - 1;
+        let stripe = (slot.index / data) as u16;
+        let number = (slot.index % data) as u8;
+        let parity = self.parity_place(slot.sb, stripe).die;
+        Place {
+            die: if number < parity { number } else { number + 1 },
+            sb: slot.sb,
+            page: stripe,
+        }
+    }
+
+    /// The page where a stripe's parity stands.
+    pub fn parity_place(&self, sb: u16, stripe: u16) -> Place
+        requires superblock { sb < self.now.superblocks }
+        requires stripe { stripe < self.now.pages }
+        ensures { result ≡ place_of_parity self.now.dies sb stripe }
+    {
+        Place {
+            die: ((sb + stripe) % self.dies as u16) as u8,
+            sb,
+            page: stripe,
+        }
+    }
+}
+
+fn cells(channels: u8, dies: u8, superblocks: u16, pages: u16, word_bits: u32) -> u64
+    requires channels { channels ≤ 8 }
+    requires dies { dies ≤ 8 }
+    requires superblocks { superblocks ≤ 256 }
+    requires pages { pages ≤ 256 }
+    requires word_bits { word_bits ≤ 131072 }
+    ensures { result ≡ channels * dies * superblocks * pages * word_bits }
+{
+    channels as u64 * dies as u64 * superblocks as u64 * pages as u64 * word_bits as u64
+}
+
+fn is_in_range(low: u32, n: u32, high: u32) -> bool
+    ensures { result ≡ is_between low high n }
+{
+    low <= n && n <= high
 }
