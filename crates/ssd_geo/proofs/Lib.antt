@@ -1,1 +1,3 @@
 pub mod DecodingBounds
+pub mod StripeLists
+pub mod Stripes

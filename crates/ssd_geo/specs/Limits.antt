@@ -52,14 +52,14 @@ ranges_kept channels dies superblocks pages z mb nb bytes rows =
     ∷ is_between 4 1024 z
     ∷ is_between 3 16 mb
     ∷ (is_between (mb + 1) 128 nb
-        && (nb - mb) * z % 8 == 0
-        && nb * z % 8 == 0
-        && nat_le (cells_of channels dies superblocks pages z nb) (2 ^ 28))
+    && (nb - mb) * z % 8 == 0
+    && nb * z % 8 == 0
+    && nat_le (cells_of channels dies superblocks pages z nb) (2 ^ 28))
     ∷ is_between 1 (payload_bytes_of mb nb z - 16) bytes
     ∷ is_between 1 ((superblocks - 2) * (dies - 1) * pages) rows
     ∷ []
 
 -- the first size that isn't in its range, counted from 0
-abbrev pub first_fault : ℕ → ℕ → ℕ → ℕ → ℕ → ℕ → ℕ → ℕ → ℕ → Option ℕ
-first_fault channels dies superblocks pages z mb nb bytes rows =
+abbrev pub first_size_fault : ℕ → ℕ → ℕ → ℕ → ℕ → ℕ → ℕ → ℕ → ℕ → Option ℕ
+first_size_fault channels dies superblocks pages z mb nb bytes rows =
     position not (ranges_kept channels dies superblocks pages z mb nb bytes rows)

@@ -22,6 +22,7 @@ mod row;
 mod shape;
 mod slot;
 mod stop;
+mod stripe_laws;
 mod superblock;
 mod tag;
 mod text_examples;
@@ -49,6 +50,9 @@ pub use row::Row;
 pub use shape::{Shape, ShapeFault};
 pub use slot::Slot;
 pub use stop::{ServeStop, StepStop};
+pub use stripe_laws::{
+    data_dies_are_the_others, due_pages_add_up, due_pages_rise, slots_and_data_places_match,
+};
 pub use superblock::{SbInfo, SbState};
 pub use tag::Tag;
 pub use text_examples::{example_kinds, example_numbers, example_replies, example_runs};

@@ -1,5 +1,5 @@
 ghost use Rattle.std.specs.Prelude.{◌≡◌, ◌↔◌, ◌*◌, ◌-◌, ◌<◌, ◌≤◌, IsOk, IfOk, IfErr, Some};
-ghost use Rattle.ssd_geo.specs.Limits.{IsWithinLimits, first_fault, is_between, payload_bytes_of, word_bytes_of};
+ghost use Rattle.ssd_geo.specs.Limits.{IsWithinLimits, first_size_fault, is_between, payload_bytes_of, word_bytes_of};
 ghost use Rattle.ssd_geo.specs.Stripe.{place_of_parity, place_of_slot};
 ghost use Rattle.ssd_geo.specs.Superblock.{slots_of};
 
@@ -54,9 +54,7 @@ impl Shape {
     ) -> Result<Shape, ShapeFault>
         ensures within { IsOk result ↔ IsWithinLimits channels dies superblocks pages z mb nb bytes rows }
         ensures sizes { IfOk result (λ s. HasSizes s channels dies superblocks pages z mb nb bytes rows) }
-        ensures fault {
-            IfErr result (λ e. first_fault channels dies superblocks pages z mb nb bytes rows ≡ Some e.field)
-        }
+        ensures fault { IfErr result (λ e. first_size_fault channels dies superblocks pages z mb nb bytes rows ≡ Some e.field) }
     {
         if !is_in_range(1, channels as u32, 8) {
             return Err(ShapeFault { field: 0 });
@@ -92,7 +90,11 @@ impl Shape {
             return Err(ShapeFault { field: 7 });
         }
         // Two superblocks are kept for collections.
-        if !is_in_range(1, rows, (superblocks as u32 - 2) * (dies as u32 - 1) * pages as u32) {
+        if !is_in_range(
+            1,
+            rows,
+            (superblocks as u32 - 2) * (dies as u32 - 1) * pages as u32,
+        ) {
             return Err(ShapeFault { field: 8 });
         }
         Ok(Shape {
