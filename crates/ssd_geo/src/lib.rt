@@ -29,6 +29,7 @@ mod text_examples;
 mod trace;
 mod weak;
 mod word;
+mod word_examples;
 
 pub use base::{BlockBase, ChannelBase};
 pub use cell_examples::{noise_from_zero, senses_of_a_byte};
@@ -59,3 +60,4 @@ pub use text_examples::{example_kinds, example_numbers, example_replies, example
 pub use trace::{Content, Trace, TraceCall, Verb};
 pub use weak::Weak;
 pub use word::Word;
+pub use word_examples::{example_statuses, example_words};
