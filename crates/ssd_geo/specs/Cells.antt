@@ -1,7 +1,7 @@
 -- What levels do the cells of a page have, and what does a sense give? A single-level cell that is erased reads 1
 -- and one that is programmed reads 0 (Micheloni, Inside NAND Flash Memories); whole-number levels, noise and ageing
 -- are this project's own.
-use Rattle.std.specs.Prelude.{ℕ, ◌*◌, Bool, if◌then◌else◌, List, [], ◌∷◌, map, length, ℤ, pos, negsuc, ◌+ℤ◌, ◌-ℤ◌, int_lt}
+use Rattle.std.specs.Prelude.{ℕ, ◌*◌, Bool, if◌then◌else◌, List, [], ◌∷◌, map, length, ◌≤◌, ℤ, pos, negsuc, ◌+ℤ◌, ◌-ℤ◌, ◌<ℤ◌, ◌≤ℤ◌, int_lt}
 use Rattle.std.specs.List.{range_with_len}
 use Rattle.std.specs.Int.{int_max}
 use Rattle.ssd_geo.specs.Bits.{bit_of, bytes_of}
@@ -39,3 +39,10 @@ sensed at levels = bytes_of (map (sensed_bit at) levels)
 abbrev pub levels_of_five : List ℤ
 levels_of_five =
     fresh_levels (record { erased = negsuc 99; programmed = pos 100; spread = 0; seed = 0 }) 0 0 (5 ∷ [])
+
+-- a cell law is in its range
+pub record IsCellLaw (law : CellLaw) : Type 0 where
+  pub erased_low : negsuc 8191 ≤ℤ law.erased
+  pub programmed_low : law.erased <ℤ law.programmed
+  pub programmed_high : law.programmed ≤ℤ pos 8191
+  pub spread_high : law.spread ≤ 4095
