@@ -1,0 +1,134 @@
+-- How is a page read whose cells may have drifted? Read retry is a ladder of rungs: the page is sensed at each read
+-- level in order and decoded by hard values; then five senses around the best of these levels give soft values; then,
+-- where the page's stripe is closed, the stripe's other pages are read in the same way, and their sum is the page. The
+-- ladder is a function of the senses that it was given, in order: it keeps no state. Order and levels are this
+-- project's own.
+use Rattle.std.specs.Prelude.{ℕ, ◌+◌, ◌*◌, ◌==◌, nat_lt, nat_le, Bool, true, false, not, List, [], ◌∷◌, map, length, take, drop, slice_index_or, replicate, zip, find, filter, Option, Some, None, ℤ, pos, ◌+ℤ◌, ◌-ℤ◌}
+use Rattle.std.specs.List.{list_all, range_with_len}
+use Rattle.std.specs.Option.{option_map_or}
+use Rattle.ssd_geo.specs.Bits.{bytes_sum}
+use Rattle.ssd_geo.specs.declared.place.Place.{Place}
+
+-- how pages are written and read: the word of a serial, a row and data; whether a word has the head of a serial and a
+-- row; the number of a word's bytes; the read levels in order, and the distance between soft senses; the codeword that
+-- is found from one sense by hard values and from five by soft ones; and how many checks a raw word fails
+pub record Coding : Type 0 where
+  pub encoded : ℕ → ℕ → List ℕ → List ℕ
+  pub has_head : ℕ → ℕ → List ℕ → Bool
+  pub word_bytes : ℕ
+  pub levels : List ℤ
+  pub step : ℕ
+  pub hard : List ℕ → Option (List ℕ)
+  pub soft : List (List ℕ) → Option (List ℕ)
+  pub failed : List ℕ → ℕ
+
+-- what the ladder has come to: it asks for a sense of a place at a level, or it has recovered the page at a rung, with
+-- its word, or it can't
+pub data LadderState : Type 0 where
+  asks : Place → ℤ → LadderState
+  recovered : ℕ → List ℕ → LadderState
+  uncorrectable : LadderState
+
+-- what the work on one place has come to: it wants a sense at a level, or a word was found at a rung, or none was.
+-- The list has the senses that are left over for the places after it.
+pub data PlaceState : Type 0 where
+  wants : ℤ → PlaceState
+  found : ℕ → List ℕ → List (List ℕ) → PlaceState
+  missed : List (List ℕ) → PlaceState
+
+-- the word that was found, where it is accepted
+abbrev pub accepted : (List ℕ → Bool) → Option (List ℕ) → Option (List ℕ)
+accepted accepts None = None
+accepted accepts (Some word) = elim (accepts word) [ true ↦ Some word | false ↦ None ]
+
+-- the soft senses: five levels around a center, rising
+abbrev pub soft_levels : ℕ → ℤ → List ℤ
+soft_levels step center =
+    (center -ℤ pos (2 * step)) ∷ (center -ℤ pos step) ∷ center ∷ (center +ℤ pos step) ∷ (center +ℤ pos (2 * step)) ∷ []
+
+-- the soft part at a place: five senses, and the word that is found from them
+abbrev pub soft_work : Coding → (List ℕ → Bool) → ℤ → List (List ℕ) → PlaceState
+soft_work coding accepts center senses =
+    elim (nat_lt (length senses) 5) [
+      | true ↦ wants (slice_index_or (soft_levels coding.step center) (length senses) center)
+      | false ↦ elim (accepted accepts (coding.soft (take 5 senses))) [
+        | Some word ↦ found (length coding.levels) word (drop 5 senses)
+        | None ↦ missed (drop 5 senses)
+      ]
+    ]
+
+-- whether the raw word of a sense fails no more checks than any other of them
+abbrev pub fails_fewest : Coding → List (ℤ × List ℕ) → ℤ × List ℕ → Bool
+fails_fewest coding all sense = list_all (λ other. nat_le (coding.failed sense.1) (coding.failed other.1)) all
+
+-- the first read level whose raw word failed the fewest checks, of the senses at the read levels in order
+abbrev pub best_level : Coding → List (List ℕ) → ℤ
+best_level coding senses =
+    let all = zip coding.levels senses in option_map_or (λ (sense : ℤ × List ℕ). sense.0) (find (fails_fewest coding all) all) (pos 0)
+
+-- the hard part at a place, over the read levels that are left from a rung on, and then what comes after it
+abbrev pub hard_work : Coding → (List ℕ → Bool) → (List (List ℕ) → PlaceState) → List ℤ → ℕ → List (List ℕ) → PlaceState
+hard_work coding accepts after [] rung senses = after senses
+hard_work coding accepts after (level ∷ levels) rung [] = wants level
+hard_work coding accepts after (level ∷ levels) rung (sense ∷ senses) =
+    elim (accepted accepts (coding.hard sense)) [
+      | Some word ↦ found rung word senses
+      | None ↦ hard_work coding accepts after levels (rung + 1) senses
+    ]
+
+-- the work on one place, from the senses that begin with its own: hard values at each read level, then soft values
+abbrev pub place_work : Coding → (List ℕ → Bool) → List (List ℕ) → PlaceState
+place_work coding accepts senses =
+    hard_work coding accepts (soft_work coding accepts (best_level coding senses)) coding.levels 0 senses
+
+-- the work on the other places of a stripe, in order, with the sum of the words found at those before: any codeword
+-- is accepted there, and the sum of all is the page where its head is the expected one
+abbrev pub stripe_work : Coding → (List ℕ → Bool) → List Place → List ℕ → List (List ℕ) → LadderState
+stripe_work coding accepts [] sum senses =
+    elim (accepts sum) [ true ↦ recovered (length coding.levels + 1) sum | false ↦ uncorrectable ]
+stripe_work coding accepts (place ∷ places) sum senses =
+    elim (place_work coding (λ word. true) senses) [
+      | wants level ↦ asks place level
+      | found rung word left ↦ stripe_work coding accepts places (bytes_sum sum word) left
+      | missed left ↦ uncorrectable
+    ]
+
+-- the ladder of a page at a place, with the other places of its stripe, over the senses that it was given
+abbrev pub ladder : Coding → (List ℕ → Bool) → Place → List Place → Bool → List (List ℕ) → LadderState
+ladder coding accepts place others closed senses =
+    elim (place_work coding accepts senses) [
+      | wants level ↦ asks place level
+      | found rung word left ↦ recovered rung word
+      | missed left ↦ elim closed [
+        | true ↦ stripe_work coding accepts others (replicate coding.word_bytes 0) left
+        | false ↦ uncorrectable
+      ]
+    ]
+
+-- the other places of a page's stripe, in the order of the dies
+abbrev pub other_places : ℕ → Place → List Place
+other_places dies place =
+    map (λ die. record { die = die; sb = place.sb; page = place.page })
+    (filter (λ die. not (die == place.die)) (range_with_len 0 dies))
+
+-- whether a ladder has an answer, has recovered the page, and can't
+abbrev pub has_answer : LadderState → Bool
+has_answer (asks place level) = false
+has_answer (recovered rung word) = true
+has_answer uncorrectable = true
+
+abbrev pub is_recovered : LadderState → Bool
+is_recovered (asks place level) = false
+is_recovered (recovered rung word) = true
+is_recovered uncorrectable = false
+
+abbrev pub is_uncorrectable : LadderState → Bool
+is_uncorrectable (asks place level) = false
+is_uncorrectable (recovered rung word) = false
+is_uncorrectable uncorrectable = true
+
+-- the word that a ladder recovered, and none elsewhere
+abbrev pub word_recovered : LadderState → List ℕ
+word_recovered (asks place level) = []
+word_recovered (recovered rung word) = word
+word_recovered uncorrectable = []
