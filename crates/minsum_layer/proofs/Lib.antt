@@ -1,1 +1,3 @@
+pub mod Gathered
+pub mod Scattered
 pub mod TwoLeast

@@ -1,5 +1,5 @@
 -- The two least magnitudes of a row, kept in one pass, give the least magnitude of the others at each place.
-use Rattle.std.proofs.Common.{◌≡◌, ℕ, zero, suc, ◌+◌, ◌<◌, ◌≤◌, min, max, Bool, true, false, not, cond, eqb, List, [], ◌∷◌, map, length, get_or, take, drop, ℤ, pos, negsuc, unsigned_abs, fold, All, refl, sym, ap, ◌∙◌, arith}
+use Rattle.std.proofs.Common.{◌≡◌, ℕ, zero, suc, ◌<◌, ◌≤◌, min, max, Bool, true, false, cond, eqb, List, [], ◌∷◌, map, length, get_or, take, drop, ℤ, pos, unsigned_abs, fold, All, refl, sym, ap, ◌∙◌, arith}
 use Rattle.std.specs.List.{remove}
 use Rattle.std.proofs.lemmas.Bool.Decides.{nat_tests}
 use Rattle.std.proofs.lemmas.List.Elements.{All-head, All-append, All-take, All-drop}

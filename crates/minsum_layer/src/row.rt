@@ -17,8 +17,8 @@ fn extremes_of(q: &[i8]) -> Extremes
     requires values { All (IsWithin 127) q.now }
     ensures least_of_others { (i : ℕ) → i < length q.now → least_magnitude (remove q.now i)
         ≡ (if unsigned_abs (slice_index_or q.now i (pos 0)) == result.least
-            then result.second
-            else result.least) }
+        then result.second
+        else result.least) }
     ensures negative { result.negative ≡ is_product_negative q.now }
 {
     let mut least = 127u8;
@@ -30,7 +30,11 @@ fn extremes_of(q: &[i8]) -> Extremes
         least = least.min(magnitude);
         negative = negative != (*x < 0);
     }
-    Extremes { least, second, negative }
+    Extremes {
+        least,
+        second,
+        negative,
+    }
 }
 
 /// Three quarters of a magnitude, rounded down.

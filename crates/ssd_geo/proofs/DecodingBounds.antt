@@ -1,11 +1,12 @@
 -- The numbers that a check row and a layer leave are bounded.
-use Rattle.std.proofs.Common.{ℕ, zero, suc, ◌*◌, ◌/◌, ◌≤◌, min, Bool, true, false, List, [], ◌∷◌, map, length, take, drop, ℤ, ◌+ℤ◌, ◌-ℤ◌, unsigned_abs, set, All, fold, arith, zip}
+use Rattle.std.proofs.Common.{◌≡◌, ap, ℕ, zero, suc, ◌*◌, ◌/◌, ◌≤◌, min, Bool, true, false, List, [], ◌∷◌, map, length, take, drop, ℤ, ◌+ℤ◌, ◌-ℤ◌, unsigned_abs, set, All, fold, arith, zip}
 use Rattle.std.specs.List.{remove, range_with_len}
 use Rattle.std.proofs.lemmas.Int.{ints, clamps}
-use Rattle.std.proofs.lemmas.List.Elements.{All-nil, All-cons, All-head, All-tail, All-append, All-take, All-drop, All-set, All-map}
+use Rattle.std.proofs.lemmas.List.Elements.{All-nil, All-cons, All-head, All-tail, All-append, All-take, All-drop, All-set, All-map, All-same}
 use Rattle.ssd_geo.specs.RowRule.{IsWithin, row_rule, told_by, least_magnitude, signed, is_product_negative}
 use Rattle.ssd_geo.specs.Decoding.{clamped, given_of, sums_of, placed, picked, edges_of, row_worked, rows_worked}
 use Rattle.ssd_geo.specs.Layer.{variables_of}
+use Rattle.ssd_geo.specs.LayerNumbers.{AreNumbersOf}
 
 signed_within : (b : Bool) (n bound : ℕ) → n ≤ bound → IsWithin bound (signed b n)
 signed_within false n bound h = h
@@ -88,3 +89,12 @@ rows_variables_within layer z (suc n) s h = row_variables_within layer z n (rows
 pub rows_edges_within : (layer : List (ℕ × ℕ)) (z n : ℕ) (s : List ℤ × List ℤ) → All (IsWithin 95) s.1 → All (IsWithin 95) (rows_worked layer z n s).1
 rows_edges_within layer z zero s h = h
 rows_edges_within layer z (suc n) s h = row_edges_within layer z n (rows_worked layer z n s) (rows_edges_within layer z n s h)
+
+-- a layer's numbers stay such while its check rows are worked
+pub numbers_kept : (layer : List (ℕ × ℕ)) (z n : ℕ) (p r p' r' : List ℤ) → AreNumbersOf z layer p r → (p', r') ≡ rows_worked layer z n (p, r) → length p' ≡ length p → length r' ≡ length r → AreNumbersOf z layer p' r'
+numbers_kept layer z n p r p' r' h e in_p in_r = record {
+  columns = λ k d q. omega (arith, h.columns k d q);
+  edges = omega (arith, h.edges);
+  p_within = All-same (IsWithin 222) p' (rows_worked layer z n (p, r)).0 (ap (λ s. s.0) e) (rows_variables_within layer z n (p, r) h.p_within);
+  r_within = All-same (IsWithin 95) r' (rows_worked layer z n (p, r)).1 (ap (λ s. s.1) e) (rows_edges_within layer z n (p, r) h.r_within);
+}

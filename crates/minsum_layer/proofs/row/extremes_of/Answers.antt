@@ -1,4 +1,4 @@
-use Rattle.std.proofs.Common.{◌≡◌, ap, sym, ◌∙◌, drop, fold, arith}
+use Rattle.std.proofs.Common.{sym, ◌∙◌, fold, arith}
 use Rattle.std.proofs.lemmas.List.{at_drop_all}
 use Rattle.minsum_layer.proofs.TwoLeast.{keep, least_of_others}
 use Rattle.minsum_layer.proofs.row.extremes_of.Goals as goal
