@@ -68,7 +68,8 @@ impl Sink for MemSink {
 
         // Which calls fail, and how much the others take.
         ensures fails { is_err result ≡ is_next_refused self.old }
-        ensures count { IfOk result (λ n. n ≡ min (length piece.now) (self.old.room - length self.old.written)) }
+        ensures count { let left = self.old.room - length self.old.written in
+            IfOk result (λ n. n ≡ min (length piece.now) left) }
         ensures after { self.new ≡ sink_after self.old piece.now }
     {
         let left = self.room - self.bytes.len();
