@@ -3,24 +3,13 @@
 -- where the page's stripe is closed, the stripe's other pages are read in the same way, and their sum is the page. The
 -- ladder is a function of the senses that it was given, in order: it keeps no state. Order and levels are this
 -- project's own.
-use Rattle.std.specs.Prelude.{ℕ, ◌+◌, ◌*◌, ◌==◌, nat_lt, nat_le, Bool, true, false, not, List, [], ◌∷◌, map, length, take, drop, slice_index_or, replicate, zip, find, filter, Option, Some, None, ℤ, pos, ◌+ℤ◌, ◌-ℤ◌}
+use Rattle.std.specs.Prelude.{ℕ, ◌+◌, ◌*◌, ◌==◌, nat_lt, nat_le, Bool, true, false, not, List, [], ◌∷◌, map, length, take, drop, slice_index_or, zip, find, filter, Option, Some, None, ℤ, pos, ◌+ℤ◌, ◌-ℤ◌}
 use Rattle.std.specs.List.{list_all, range_with_len}
 use Rattle.std.specs.Option.{option_map_or}
 use Rattle.ssd_geo.specs.Bits.{bytes_sum}
+use Rattle.ssd_geo.specs.Coding.{Coding}
+use Rattle.ssd_geo.specs.StripeSum.{zero_word}
 use Rattle.ssd_geo.specs.declared.place.Place.{Place}
-
--- how pages are written and read: the word of a serial, a row and data; whether a word has the head of a serial and a
--- row; the number of a word's bytes; the read levels in order, and the distance between soft senses; the codeword that
--- is found from one sense by hard values and from five by soft ones; and how many checks a raw word fails
-pub record Coding : Type 0 where
-  pub encoded : ℕ → ℕ → List ℕ → List ℕ
-  pub has_head : ℕ → ℕ → List ℕ → Bool
-  pub word_bytes : ℕ
-  pub levels : List ℤ
-  pub step : ℕ
-  pub hard : List ℕ → Option (List ℕ)
-  pub soft : List (List ℕ) → Option (List ℕ)
-  pub failed : List ℕ → ℕ
 
 -- what the ladder has come to: it asks for a sense of a place at a level, or it has recovered the page at a rung, with
 -- its word, or it can't
@@ -100,7 +89,7 @@ ladder coding accepts place others closed senses =
       | wants level ↦ asks place level
       | found rung word left ↦ recovered rung word
       | missed left ↦ elim closed [
-        | true ↦ stripe_work coding accepts others (replicate coding.word_bytes 0) left
+        | true ↦ stripe_work coding accepts others (zero_word coding.word_bytes) left
         | false ↦ uncorrectable
       ]
     ]

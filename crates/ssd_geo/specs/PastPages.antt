@@ -3,17 +3,19 @@
 -- last slot of a stripe also the stripe's sum at the parity place; an erase empties all pages of its blocks. A page that
 -- no entry changed is as the image has it. Levels start fresh at each program and fall with each ageing. A
 -- sense gives the bits of the levels at its position.
-use Rattle.std.specs.Prelude.{ℕ, ◌+◌, ◌-◌, ◌*◌, ◌/◌, ◌%◌, ◌==◌, nat_lt, Bool, true, false, ◌&&◌, not, List, [], ◌∷◌, ◌++◌, map, replicate, Option, Some, None, option_map, ℤ}
+use Rattle.std.specs.Prelude.{ℕ, ◌+◌, ◌-◌, ◌*◌, ◌/◌, ◌%◌, ◌==◌, nat_lt, Bool, true, false, ◌&&◌, not, List, [], ◌∷◌, ◌++◌, map, Option, Some, None, option_map, ℤ}
 use Rattle.ssd_geo.specs.Bits.{bytes_sum}
 use Rattle.ssd_geo.specs.Blocks.{block_at}
+use Rattle.ssd_geo.specs.Coding.{Coding, word_bytes_of}
 use Rattle.ssd_geo.specs.Cells.{aged_level, fresh_levels, sensed}
 use Rattle.ssd_geo.specs.History.{look_of}
-use Rattle.ssd_geo.specs.Ladder.{Coding, LadderState, asks, ladder, other_places, uncorrectable, word_recovered}
+use Rattle.ssd_geo.specs.Ladder.{LadderState, ladder, other_places, uncorrectable, word_recovered}
 use Rattle.ssd_geo.specs.Noise.{number_of_page}
 use Rattle.ssd_geo.specs.PastBlocks.{erases_of}
 use Rattle.ssd_geo.specs.PastRows.{serial_of}
-use Rattle.ssd_geo.specs.Start.{Start, data_of, empty_levels, image_page, word_bytes_of}
+use Rattle.ssd_geo.specs.Start.{Start, data_of, empty_levels, image_page}
 use Rattle.ssd_geo.specs.States.{is_frontier}
+use Rattle.ssd_geo.specs.StripeSum.{zero_word}
 use Rattle.ssd_geo.specs.Stripe.{is_last_of_stripe, parity_die, place_of_parity, place_of_slot, stripe_of_index}
 use Rattle.ssd_geo.specs.declared.base.ChannelBase.{ChannelBase}
 use Rattle.ssd_geo.specs.declared.entry.Entry.{Entry}
@@ -118,7 +120,7 @@ is_open_in_image base sb stripe =
 -- the sum of a stripe's data words before the first entry
 abbrev pub sum_in_image : ChannelBase → ℕ → ℕ → List ℕ
 sum_in_image base sb stripe =
-    elim (is_open_in_image base sb stripe) [ true ↦ base.sum | false ↦ replicate (word_bytes_of base) 0 ]
+    elim (is_open_in_image base sb stripe) [ true ↦ base.sum | false ↦ zero_word (word_bytes_of base.shape) ]
 
 -- the level at which an entry senses for a look, and the place, if it does
 abbrev pub sense_for : ℕ → Kind → Option (Place × ℤ)
@@ -198,7 +200,7 @@ abbrev mutual
       elim (sum_change start.base.shape.dies sb stripe entry.kind) [
         | adds ↦ bytes_sum (word_programmed coding start contents (senses_of coding start contents past) past entry.tag entry.kind)
             (sum_of coding start contents past sb stripe)
-        | clears ↦ replicate coding.word_bytes 0
+        | clears ↦ zero_word coding.word_bytes
         | keeps ↦ sum_of coding start contents past sb stripe
       ]
 

@@ -1,7 +1,7 @@
 -- What does the page map hold for a row? The latest entry that changed the row decides: a write or a copy names the
 -- new slot, a trim empties the row, and a page that couldn't be recovered is lost. Without such an entry the
 -- row is what it was at the start.
-use Rattle.std.specs.Prelude.{ℕ, ◌+◌, ◌*◌, ◌^◌, ◌==◌, Bool, true, false, List, [], ◌∷◌, map, slice_index_or, Option, Some, None, option_map}
+use Rattle.std.specs.Prelude.{ℕ, ◌==◌, Bool, true, false, List, [], ◌∷◌, map, slice_index_or, Option, Some, None, option_map}
 use Rattle.std.specs.List.{range_with_len}
 use Rattle.ssd_geo.specs.declared.base.ChannelBase.{ChannelBase}
 use Rattle.ssd_geo.specs.declared.entry.Entry.{Entry}
@@ -9,10 +9,11 @@ use Rattle.ssd_geo.specs.declared.kind.Kind.{Kind}
 use Rattle.ssd_geo.specs.declared.row.Row.{Row}
 use Rattle.ssd_geo.specs.declared.tag.Tag.{Tag}
 use Rattle.ssd_geo.specs.History.{look_of}
+use Rattle.ssd_geo.specs.PageHead.{serial_of_call}
 
 -- the serial of a write by a call
 abbrev pub serial_of : ℕ → Tag → ℕ
-serial_of session tag = session * 2 ^ 40 + tag.actor * 2 ^ 32 + tag.call
+serial_of session tag = serial_of_call session tag.actor tag.call
 
 -- the row that an entry changes and what the map then holds for it, if the entry changes one
 abbrev pub row_change : ℕ → List Entry → Tag → Kind → Option (ℕ × Row)

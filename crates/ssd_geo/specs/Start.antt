@@ -1,8 +1,7 @@
 -- What does a channel begin with? A start is plain data: the channel as an image has it, the limit of its history,
 -- what its dies told of their cells, their counts of faults, and the view of its policy where that was told. Contents
 -- are the data of writes: a list of tags with their data bytes.
-use Rattle.std.specs.Prelude.{ℕ, ◌*◌, ◌/◌, ◌==◌, Bool, true, false, List, [], ◌∷◌, length, replicate, slice_index_or, slice_get, ℤ, Option, Some, None, find}
-use Rattle.ssd_geo.specs.BaseMatrix.{BaseMatrix}
+use Rattle.std.specs.Prelude.{ℕ, ◌*◌, ◌==◌, Bool, true, false, List, [], ◌∷◌, length, replicate, slice_index_or, slice_get, ℤ, Option, Some, None, find}
 use Rattle.ssd_geo.specs.History.{is_same_tag}
 use Rattle.ssd_geo.specs.declared.base.ChannelBase.{ChannelBase}
 use Rattle.ssd_geo.specs.declared.place.Place.{Place}
@@ -35,14 +34,6 @@ cells_at start die sb = slice_index_or (slice_index_or start.cells die []) sb bl
 -- the levels of a page at the start, where it is programmed
 abbrev pub image_page : Start → Place → Option (List ℤ)
 image_page start place = slice_get (cells_at start place.die place.sb).pages place.page
-
--- the base matrix of a channel
-abbrev pub matrix_of : ChannelBase → BaseMatrix
-matrix_of base = record { z = base.shape.z; mb = base.shape.mb; nb = base.shape.nb; entries = base.entries }
-
--- the number of bytes of a page's word
-abbrev pub word_bytes_of : ChannelBase → ℕ
-word_bytes_of base = base.shape.nb * base.shape.z / 8
 
 -- the levels of an empty page: the erased one in each cell
 abbrev pub empty_levels : ChannelBase → List ℤ
