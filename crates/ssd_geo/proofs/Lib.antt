@@ -1,3 +1,4 @@
 pub mod DecodingBounds
+pub mod Payloads
 pub mod StripeLists
 pub mod Stripes
