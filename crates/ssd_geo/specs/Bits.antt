@@ -61,5 +61,5 @@ abbrev pub rotated : ℕ → List Bool → List Bool
 rotated shift bits = map (λ r. slice_index_or bits ((r + shift) % length bits) false) (range_with_len 0 (length bits))
 
 -- how many of the bits are 1
-abbrev pub weight : List Bool → ℕ
-weight bits = count_by (λ bit. bit) bits
+abbrev pub weight_of : List Bool → ℕ
+weight_of bits = count_by (λ bit. bit) bits
