@@ -2,7 +2,7 @@
 -- conditions tie an entry to what the page map, the superblocks, the open looks and the ladder were at its position.
 -- They are this project's own. What the ladder of a look has come to is handed in by a function of the past and the
 -- look's position, so that all else can be judged without decoding a word.
-use Rattle.std.specs.Prelude.{ℕ, ◌==◌, ◌≡◌, ◌≢◌, nat_le, Bool, true, false, ◌||◌, not, if◌then◌else◌, IsTrue, List, [], ◌∷◌, Option, Some, None, is_none, IsSomeAnd, ℤ, ⊤}
+use Rattle.std.specs.Prelude.{ℕ, ◌==◌, ◌≡◌, ◌≢◌, nat_le, Bool, false, ◌||◌, not, if◌then◌else◌, IsTrue, List, [], ◌∷◌, Option, Some, None, is_none, IsSomeAnd, ℤ, ⊤}
 use Rattle.std.specs.List.{list_any}
 use Rattle.ssd_geo.specs.Coding.{coding_of}
 use Rattle.ssd_geo.specs.History.{open_look}

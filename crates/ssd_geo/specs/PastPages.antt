@@ -3,7 +3,7 @@
 -- last slot of a stripe also the stripe's sum at the parity place; an erase empties all pages of its blocks. A page that
 -- no entry changed is as the image has it. Levels start fresh at each program and fall with each ageing. A
 -- sense gives the bits of the levels at its position.
-use Rattle.std.specs.Prelude.{ℕ, ◌+◌, ◌-◌, ◌*◌, ◌/◌, ◌%◌, ◌==◌, nat_lt, Bool, true, false, ◌&&◌, not, List, [], ◌∷◌, ◌++◌, map, Option, Some, None, option_map, ℤ}
+use Rattle.std.specs.Prelude.{ℕ, ◌-◌, ◌/◌, ◌%◌, ◌==◌, nat_lt, Bool, true, false, ◌&&◌, not, List, [], ◌∷◌, ◌++◌, map, Option, Some, None, option_map, ℤ}
 use Rattle.ssd_geo.specs.Bits.{bytes_sum}
 use Rattle.ssd_geo.specs.Blocks.{block_at}
 use Rattle.ssd_geo.specs.Coding.{Coding, word_bytes_of}

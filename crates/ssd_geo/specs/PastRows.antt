@@ -1,7 +1,7 @@
 -- What does the page map hold for a row? The latest entry that changed the row decides: a write or a copy names the
 -- new slot, a trim empties the row, and a page that couldn't be recovered is lost. Without such an entry the
 -- row is what it was at the start.
-use Rattle.std.specs.Prelude.{ℕ, ◌==◌, Bool, true, false, List, [], ◌∷◌, map, slice_index_or, Option, Some, None, option_map}
+use Rattle.std.specs.Prelude.{ℕ, ◌==◌, true, false, List, [], ◌∷◌, map, slice_index_or, Option, Some, None, option_map}
 use Rattle.std.specs.List.{range_with_len}
 use Rattle.ssd_geo.specs.declared.base.ChannelBase.{ChannelBase}
 use Rattle.ssd_geo.specs.declared.entry.Entry.{Entry}

@@ -1,6 +1,6 @@
 -- Where is room for one more page, and is there garbage to collect? The words of room and of policies are those over
 -- plain lists, at the superblocks, rows and open looks that the past gives.
-use Rattle.std.specs.Prelude.{ℕ, ◌/◌, ◌-◌, ◌==◌, Bool, true, false, List, length, Option, Some, None, option_map}
+use Rattle.std.specs.Prelude.{ℕ, ◌==◌, Bool, false, List, Option, Some, None}
 use Rattle.ssd_geo.specs.Blocks as Blocks
 use Rattle.ssd_geo.specs.History.{open_looks}
 use Rattle.ssd_geo.specs.OpenLooks.{looks_in}

@@ -1,7 +1,7 @@
 -- What does a channel begin with? A start is plain data: the channel as an image has it, the limit of its history,
 -- what its dies told of their cells, their counts of faults, and the view of its policy where that was told. Contents
 -- are the data of writes: a list of tags with their data bytes.
-use Rattle.std.specs.Prelude.{ℕ, ◌*◌, ◌==◌, Bool, true, false, List, [], ◌∷◌, length, replicate, slice_index_or, slice_get, ℤ, Option, Some, None, find}
+use Rattle.std.specs.Prelude.{ℕ, ◌*◌, true, false, List, [], ◌∷◌, replicate, slice_index_or, slice_get, ℤ, Option}
 use Rattle.ssd_geo.specs.History.{is_same_tag}
 use Rattle.ssd_geo.specs.declared.base.ChannelBase.{ChannelBase}
 use Rattle.ssd_geo.specs.declared.place.Place.{Place}

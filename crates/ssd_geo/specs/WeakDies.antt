@@ -1,6 +1,6 @@
 -- Which dies does a program or an erase use, and on which of them may it fail? A weak block answers FAIL while its
 -- erase count is at least the number that the image lists for it. Weak blocks are this project's own.
-use Rattle.std.specs.Prelude.{ℕ, ◌==◌, nat_le, Bool, true, false, ◌&&◌, ◌||◌, not, if◌then◌else◌, List, [], ◌∷◌}
+use Rattle.std.specs.Prelude.{ℕ, ◌==◌, nat_le, Bool, false, ◌&&◌, ◌||◌, not, if◌then◌else◌, List, [], ◌∷◌}
 use Rattle.std.specs.List.{list_any, range_with_len}
 use Rattle.ssd_geo.specs.PastBlocks.{erases_of}
 use Rattle.ssd_geo.specs.Stripe.{is_last_of_stripe, parity_die, place_of_slot, stripe_of_index}
