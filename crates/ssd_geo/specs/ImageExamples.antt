@@ -1,7 +1,13 @@
 -- Which images are read by hand, to see that the definitions of images say what is meant?
-use Rattle.std.specs.Prelude.{ℕ, ◌+◌, length, false, List, [], ◌∷◌, ◌++◌, take, drop, pos, negsuc, Ok, Err}
+use Rattle.std.specs.Prelude.{replicate, true, map, ℕ, ◌+◌, length, false, List, [], ◌∷◌, ◌++◌, take, drop, pos, negsuc, Ok, Err}
 use Rattle.ssd_geo.specs.Fields.{Fault, Reading}
-use Rattle.ssd_geo.specs.ImageHead.{Head, read_head}
+use Rattle.ssd_geo.specs.Bits.{bits_of}
+use Rattle.ssd_geo.specs.Cells.{aim_of_bit}
+use Rattle.ssd_geo.specs.Codewords.{word_of}
+use Rattle.ssd_geo.specs.ImageContents.{Saved, blank_saved}
+use Rattle.ssd_geo.specs.declared.row.Row.TheVariants.{Empty, Page}
+use Rattle.ssd_geo.specs.declared.superblock.SbState.TheVariants.{Frontier}
+use Rattle.ssd_geo.specs.ImageHead.{Head, matrix_of, with_next_session, read_head}
 use Rattle.ssd_geo.specs.InputFaults.{short}
 
 -- the bytes of a blank image of one channel: its text, its sizes, the numbers of its data, of its law and of its step,
@@ -58,3 +64,45 @@ fault_or other (Err fault) = fault
 -- the fault of the first n bytes of the image
 abbrev pub fault_of_first : ℕ → Fault
 fault_of_first n = fault_or (93, short) (read_head (take n small_image))
+
+-- the blank image as it is saved: the next session, contents, and then nothing but zeros: for each superblock its state,
+-- erases, used slots and programmed pages, and for each row its kind
+abbrev pub saved_small_image : List ℕ
+saved_small_image =
+    take 36 small_image ++ 1 ∷ take 55 (drop 37 small_image) ++ 1 ∷ replicate 68 0
+
+-- its head, and what it tells of its channel
+abbrev pub saved_small_head : Head
+saved_small_head = with_next_session small_head true
+
+-- the image of two channels with a weak block and a factory bad superblock: the fields after the base matrix
+abbrev pub small_image_with : List ℕ → List ℕ
+small_image_with lists = take 88 small_image ++ lists
+
+-- the fields of an image after its first nine bytes, of these many channels
+abbrev pub with_channels : ℕ → List ℕ → List ℕ
+with_channels channels image = take 8 image ++ channels ∷ drop 9 image
+
+-- the saved image with these bytes in place of those of its contents from a place on
+abbrev pub saved_with : ℕ → List ℕ → List ℕ
+saved_with place bytes = take place saved_small_image ++ bytes ++ drop (place + length bytes) saved_small_image
+
+-- the word of the page that row 5 has after one write of 01h 02h: the payload is a serial of 0, the row, the four bytes
+-- of a page head and the data
+abbrev pub one_page_payload : List ℕ
+one_page_payload =
+    0 ∷ 0 ∷ 0 ∷ 0 ∷ 0 ∷ 0 ∷ 0 ∷ 0 ∷ 5 ∷ 0 ∷ 0 ∷ 0 ∷ 80 ∷ 71 ∷ 69 ∷ 49 ∷ 1 ∷ 2 ∷ 0 ∷ 0 ∷ 0 ∷ 0 ∷ 0 ∷ 0 ∷ []
+
+-- a channel with that page: it stands on die 1, and the open stripe's sum is its word
+abbrev pub one_page_saved : Saved
+one_page_saved =
+    let word = word_of (matrix_of small_head) one_page_payload in
+    record {
+      blocks =
+          record {
+            block = record { state = Frontier; erases = 0; used = 1 };
+            pages = [] ∷ (map (aim_of_bit small_head.law) (bits_of 384 word) ∷ []) ∷ [] ∷ [];
+            sum = word;
+          } ∷ map (blank_saved small_head 0) (1 ∷ 2 ∷ 3 ∷ []);
+      rows = replicate 5 Empty ++ Page (record { sb = 0; index = 0 }) 0 ∷ replicate 2 Empty;
+    }

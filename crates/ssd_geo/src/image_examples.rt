@@ -1,7 +1,8 @@
 //! The head of an image and its first faults at examples that were worked out by hand.
-ghost use Rattle.std.specs.Prelude.{◌≡◌, ◌∷◌, ◌++◌, [], map, Ok, Err};
+ghost use Rattle.std.specs.Prelude.{◌≡◌, length, ◌∷◌, ◌++◌, [], map, Ok, Err};
 ghost use Rattle.std.specs.List.{range_with_len};
-ghost use Rattle.ssd_geo.specs.ImageExamples.{small_image, small_head, with_bytes_at, fault_of_first};
+ghost use Rattle.ssd_geo.specs.ImageContents.{blank_channel, image_bytes, read_image};
+ghost use Rattle.ssd_geo.specs.ImageExamples.{small_image, small_head, with_bytes_at, fault_of_first, saved_small_head, saved_small_image, saved_with, one_page_saved};
 ghost use Rattle.ssd_geo.specs.ImageHead.{head_bytes, read_head};
 ghost use Rattle.ssd_geo.specs.InputFaults.{short, magic, range, entry, parity, diagonal};
 
@@ -27,4 +28,18 @@ pub fn example_image_faults()
 /// Each front of an image that isn't whole is short, at its length.
 pub fn example_short_images()
     ensures { map fault_of_first (range_with_len 0 93) ≡ map (λ n. (n, short)) (range_with_len 0 93) }
+{}
+
+/// A blank image, and what it is saved as: the same drive, in the next session.
+pub fn example_saved_image()
+    ensures blank { read_image small_image ≡ Ok ((small_head, blank_channel small_head 0 ∷ []), record { place = 93; bytes = [] }) }
+    ensures saved { image_bytes saved_small_head (blank_channel small_head 0 ∷ []) ≡ saved_small_image }
+    ensures length { length saved_small_image ≡ 161 }
+    ensures read { read_image saved_small_image ≡ Ok ((saved_small_head, blank_channel small_head 0 ∷ []), record { place = 161; bytes = [] }) }
+{}
+
+/// A full image with one page: its length, and that it is read as it was written.
+pub fn example_page_in_image()
+    ensures length { length (image_bytes saved_small_head (one_page_saved ∷ [])) ≡ 991 }
+    ensures read { read_image (image_bytes saved_small_head (one_page_saved ∷ [])) ≡ Ok ((saved_small_head, one_page_saved ∷ []), record { place = 991; bytes = [] }) }
 {}

@@ -42,7 +42,10 @@ pub use contents::Contents;
 pub use decoding_laws::{layer_keeps_bounds, row_rule_is_bounded};
 pub use entry::Entry;
 pub use head::ImageHead;
-pub use image_examples::{example_image, example_image_faults, example_short_images};
+pub use image_examples::{
+    example_image, example_image_faults, example_page_in_image, example_saved_image,
+    example_short_images,
+};
 pub use items::Items;
 pub use kind::Kind;
 pub use look::Look;
