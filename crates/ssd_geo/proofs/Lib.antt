@@ -1,3 +1,4 @@
+pub mod AcceptedLayers
 pub mod DecodingBounds
 pub mod Payloads
 pub mod SenseValues

@@ -1,4 +1,6 @@
-ghost use Rattle.std.specs.Prelude.{ℕ, ℤ, List, All};
+ghost use Rattle.std.specs.Prelude.{ℕ, ◌<◌, ℤ, List, All};
+ghost use Rattle.ssd_geo.specs.BaseMatrix.{BaseMatrix, IsAccepted, layer_of};
+ghost use Rattle.ssd_geo.specs.LayerNumbers.{IsLayer};
 ghost use Rattle.ssd_geo.specs.RowRule.{IsWithin, row_rule};
 ghost use Rattle.ssd_geo.specs.Decoding.{layer_worked};
 
@@ -13,4 +15,11 @@ pub fn layer_keeps_bounds()
         → All (IsWithin 222) (layer_worked layer z (p, r)).0 }
     ensures edges { (layer : List (ℕ × ℕ)) (z : ℕ) (p r : List ℤ) → All (IsWithin 95) r
         → All (IsWithin 95) (layer_worked layer z (p, r)).1 }
+{}
+
+/// Each base row of an accepted matrix makes a layer, and its columns are those of the matrix.
+pub fn accepted_rows_are_layers()
+    ensures layers { (m : BaseMatrix) → IsAccepted m → (i : ℕ) → i < m.mb → IsLayer m.z (layer_of m i) }
+    ensures columns { (m : BaseMatrix) → IsAccepted m → (i : ℕ) → i < m.mb
+        → All (λ block. block.0 < m.nb) (layer_of m i) }
 {}

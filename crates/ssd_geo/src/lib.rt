@@ -39,7 +39,7 @@ pub use cell_examples::{noise_from_zero, senses_of_a_byte};
 pub use cell_law::CellLaw;
 pub use code_examples::{example_bits, example_fault, example_word};
 pub use contents::Contents;
-pub use decoding_laws::{layer_keeps_bounds, row_rule_is_bounded};
+pub use decoding_laws::{accepted_rows_are_layers, layer_keeps_bounds, row_rule_is_bounded};
 pub use entry::Entry;
 pub use head::ImageHead;
 pub use image_examples::{
