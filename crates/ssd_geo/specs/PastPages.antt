@@ -6,7 +6,7 @@
 use Rattle.std.specs.Prelude.{ℕ, ◌-◌, ◌/◌, ◌%◌, ◌==◌, nat_lt, Bool, true, false, ◌&&◌, not, List, [], ◌∷◌, ◌++◌, map, Option, Some, None, option_map, ℤ}
 use Rattle.ssd_geo.specs.Bits.{bytes_sum}
 use Rattle.ssd_geo.specs.Blocks.{block_at}
-use Rattle.ssd_geo.specs.Coding.{Coding, word_bytes_of}
+use Rattle.ssd_geo.specs.Coding.{Coding, word_bytes_in}
 use Rattle.ssd_geo.specs.Cells.{aged_level, fresh_levels, sensed}
 use Rattle.ssd_geo.specs.History.{look_of}
 use Rattle.ssd_geo.specs.Ladder.{LadderState, ladder, other_places, uncorrectable, word_recovered}
@@ -120,7 +120,7 @@ is_open_in_image base sb stripe =
 -- the sum of a stripe's data words before the first entry
 abbrev pub sum_in_image : ChannelBase → ℕ → ℕ → List ℕ
 sum_in_image base sb stripe =
-    elim (is_open_in_image base sb stripe) [ true ↦ base.sum | false ↦ zero_word (word_bytes_of base.shape) ]
+    elim (is_open_in_image base sb stripe) [ true ↦ base.sum | false ↦ zero_word (word_bytes_in base.shape) ]
 
 -- the level at which an entry senses for a look, and the place, if it does
 abbrev pub sense_for : ℕ → Kind → Option (Place × ℤ)
