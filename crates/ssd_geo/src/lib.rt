@@ -44,13 +44,18 @@ pub use decoding_laws::{accepted_rows_are_layers, layer_keeps_bounds, row_rule_i
 pub use entry::Entry;
 pub use head::ImageHead;
 pub use history_examples::{example_sizes, simple_histories};
-pub use image_examples::{example_image, example_image_faults, example_page_in_image, example_saved_image, example_short_images};
+pub use image_examples::{
+    example_image, example_image_faults, example_page_in_image, example_saved_image,
+    example_short_images,
+};
 pub use items::Items;
 pub use kind::Kind;
 pub use look::Look;
 pub use memory::Memory;
 pub use page_examples::{example_payloads, example_stripe_sum, example_stripes, example_values};
-pub use page_laws::{heads_differ, others_give_the_word, payloads_give_their_bytes, values_are_taken};
+pub use page_laws::{
+    heads_differ, others_give_the_word, payloads_give_their_bytes, values_are_taken,
+};
 pub use place::Place;
 pub use policy_view::{PolicyKind, PolicyView};
 pub use reply::{CallKind, RefreshReply, Reply};
@@ -59,7 +64,9 @@ pub use row::Row;
 pub use shape::{Shape, ShapeFault};
 pub use slot::Slot;
 pub use stop::{ServeStop, StepStop};
-pub use stripe_laws::{data_dies_are_the_others, due_pages_add_up, due_pages_rise, slots_and_data_places_match};
+pub use stripe_laws::{
+    data_dies_are_the_others, due_pages_add_up, due_pages_rise, slots_and_data_places_match,
+};
 pub use superblock::{SbInfo, SbState};
 pub use tag::Tag;
 pub use text_examples::{example_kinds, example_numbers, example_replies, example_runs};
