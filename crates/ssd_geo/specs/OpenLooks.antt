@@ -1,5 +1,5 @@
 -- Which looks of a channel are open? The list has the open looks with their calls, in the order in which they began.
-use Rattle.std.specs.Prelude.{ℕ, ◌==◌, Bool, not, Option, List, find, filter, count_by}
+use Rattle.std.specs.Prelude.{ℕ, ◌==◌, Bool, cond, Option, List, [], ◌∷◌, find, count_by}
 use Rattle.ssd_geo.specs.declared.look.Look.{Look}
 use Rattle.ssd_geo.specs.declared.tag.Tag.{Tag}
 
@@ -13,7 +13,8 @@ look_at pins at = find (began_at at) pins
 
 -- the open looks without the one that began at a position
 abbrev pub without_look : List (Tag × Look) → ℕ → List (Tag × Look)
-without_look pins at = filter (λ pin. not (began_at at pin)) pins
+without_look [] at = []
+without_look (pin ∷ pins) at = cond (began_at at pin) pins (pin ∷ without_look pins at)
 
 -- whether a look stands in a superblock
 abbrev pub stands_in : ℕ → Tag × Look → Bool

@@ -1,0 +1,3 @@
+mod Owners
+mod Setting
+mod Least
