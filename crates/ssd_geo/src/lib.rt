@@ -74,3 +74,6 @@ pub use trace::{Content, Trace, TraceCall, Verb};
 pub use weak::Weak;
 pub use word::Word;
 pub use word_examples::{example_statuses, example_words};
+
+#[cfg(test)]
+mod tests;
