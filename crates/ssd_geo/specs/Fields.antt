@@ -18,8 +18,9 @@ Fault = ℕ × ImageFault
 abbrev pub Reading : Type 0 → Type 0
 Reading A = Result (A × Rest) Fault
 
+-- goes on with what was read, or stays at the first fault
 infixl 10 ◌>>=◌
-abbrev pub ◌>>=◌ : {A B : Type 0} → Result A Fault → (A → Result B Fault) → Result B Fault
+abbrev pub ◌>>=◌ : {A B F : Type 0} → Result A F → (A → Result B F) → Result B F
 (Ok x) >>= next = next x
 (Err fault) >>= next = Err fault
 

@@ -31,6 +31,7 @@ mod superblock;
 mod tag;
 mod text_examples;
 mod trace;
+mod trace_examples;
 mod weak;
 mod word;
 mod word_examples;
@@ -71,6 +72,9 @@ pub use superblock::{SbInfo, SbState};
 pub use tag::Tag;
 pub use text_examples::{example_kinds, example_numbers, example_replies, example_runs};
 pub use trace::{Content, Trace, TraceCall, Verb};
+pub use trace_examples::{
+    example_contents, example_trace, example_trace_faults, example_trace_limits,
+};
 pub use weak::Weak;
 pub use word::Word;
 pub use word_examples::{example_statuses, example_words};
