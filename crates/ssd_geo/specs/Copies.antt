@@ -1,6 +1,6 @@
 -- Which entries make a copy, a read and a refresh? Each begins with a look and ends with its leave, where it found a
 -- page; between them stand the senses of the look, and what became of it. The order is this project's own.
-use Rattle.std.specs.Prelude.{ℕ, ◌≡◌, ◌==◌, ◌⊎◌, Bool, true, false, ◌&&◌, ◌||◌, not, IsTrue, List, [], ◌∷◌, ◌++◌}
+use Rattle.std.specs.Prelude.{ℕ, ◌≡◌, ◌==◌, ◌⊎◌, Bool, false, ◌&&◌, ◌||◌, IsTrue, List, [], ◌∷◌, ◌++◌}
 use Rattle.std.specs.List.{list_all}
 use Rattle.ssd_geo.specs.CallSteps.{CallStep, is_leave_of, is_look_at_row, is_look_of_none, is_look_of_page, is_sense_of, position_of}
 use Rattle.ssd_geo.specs.Ladder.{LadderState, has_answer, is_recovered, is_uncorrectable}

@@ -1,7 +1,7 @@
 -- Which histories are worked out, to see that the rules say what is meant? All stand on one channel with three dies and
 -- four superblocks of two pages, so of four data slots each. The pages have a coding without a code: a
 -- word is the low bytes of its serial and row and the data, and a sense at which it is read is taken as it is.
-use Rattle.std.specs.Prelude.{ℕ, ◌%◌, ◌==◌, nat_eq, Bool, false, true, List, [], ◌∷◌, ◌++◌, map, replicate, Option, Some, None, ℤ, pos, negsuc}
+use Rattle.std.specs.Prelude.{ℕ, ◌%◌, nat_eq, false, true, List, [], ◌∷◌, map, replicate, Some, None, pos, negsuc}
 use Rattle.std.specs.List.{starts_with, range_with_len}
 use Rattle.ssd_geo.specs.Blocks.{blank_block}
 use Rattle.ssd_geo.specs.Coding.{Coding}

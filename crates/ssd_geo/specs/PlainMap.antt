@@ -6,7 +6,7 @@ use Rattle.std.specs.Prelude.{ℕ, ◌≡◌, ◌-◌, ◌==◌, Bool, true, fal
 use Rattle.ssd_geo.specs.Coding.{Coding}
 use Rattle.ssd_geo.specs.History.{look_of}
 use Rattle.ssd_geo.specs.Ladder.{LadderState, asks, recovered, uncorrectable}
-use Rattle.ssd_geo.specs.PastPages.{StoredPage, ladder_of, page_of, word_of_page}
+use Rattle.ssd_geo.specs.PastPages.{ladder_of, page_of, word_of_page}
 use Rattle.ssd_geo.specs.Start.{Start, data_of}
 use Rattle.ssd_geo.specs.Stripe.{place_of_slot}
 use Rattle.ssd_geo.specs.declared.base.ChannelBase.{ChannelBase}

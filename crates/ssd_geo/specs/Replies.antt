@@ -1,8 +1,7 @@
 -- What is the reply of a call? It is given by the call's own entries: the first of its steps that decides it. A read
 -- is decided by its look, by a failed sense, or by the ladder as it stands when the look is left.
-use Rattle.std.specs.Prelude.{ℕ, ◌+◌, ◌*◌, ◌/◌, ◌%◌, ◌≡◌, ◌==◌, Bool, true, false, not, List, [], ◌∷◌, ◌++◌, filter, length, slice_range, Option, Some, None, unwrap_or, option_map, if◌then◌else◌, IsTrue}
-use Rattle.std.specs.List.{list_any}
-use Rattle.ssd_geo.specs.CallSteps.{CallStep, failed_die, is_look_at_row}
+use Rattle.std.specs.Prelude.{ℕ, ◌+◌, ◌*◌, ◌%◌, ◌==◌, Bool, true, false, List, [], ◌∷◌, filter, slice_range, Option, Some, None, unwrap_or, option_map, if◌then◌else◌}
+use Rattle.ssd_geo.specs.CallSteps.{CallStep, failed_die}
 use Rattle.ssd_geo.specs.Ladder.{LadderState, asks, recovered, uncorrectable}
 use Rattle.ssd_geo.specs.declared.entry.Entry.{Entry}
 use Rattle.ssd_geo.specs.declared.kind.Kind.{Kind}

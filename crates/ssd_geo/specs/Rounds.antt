@@ -1,7 +1,7 @@
 -- Which entries make a round of a collection, a write and a collect? A round picks a victim or takes the one that there
 -- is, copies its live pages out, and erases it. A write makes rounds until there is room; a collect makes rounds, with a
 -- note after each, until it has a reply. The order is this project's own.
-use Rattle.std.specs.Prelude.{ℕ, ◌≡◌, ◌⊎◌, ◌==◌, nat_lt, Bool, true, false, ◌&&◌, ◌||◌, not, IsTrue, List, [], ◌∷◌, ◌++◌, Option, Some, None, All, flat_map, ⊤}
+use Rattle.std.specs.Prelude.{ℕ, ◌≡◌, ◌⊎◌, ◌==◌, nat_lt, Bool, true, false, ◌&&◌, ◌||◌, not, IsTrue, List, [], ◌∷◌, ◌++◌, Option, Some, None, All, flat_map}
 use Rattle.std.specs.List.{list_all, list_any}
 use Rattle.ssd_geo.specs.CallSteps.{CallStep, is_erase, is_fault, is_pick, is_stay, late_pasts_of}
 use Rattle.ssd_geo.specs.Copies.{IsCopy}

@@ -182,3 +182,43 @@ some_reply_texts =
     codes "idle" ∷
     codes "drained 0" ∷
     codes "drained 2 0=moved 12=diefault.2" ∷ []
+
+-- texts of nothing that a step did: a word too many or too few, a number that doesn't fit its field or has a leading zero,
+-- a word of another place, `-0`, two spaces
+abbrev pub no_kind_texts : List Text
+no_kind_texts =
+    [] ∷
+    codes "look 4" ∷
+    codes "look 4 page 2.11 7" ∷
+    codes "look 4 empty open" ∷
+    codes "look 04 empty" ∷
+    codes "look 4 page 65536.11 7 open" ∷
+    codes "look 4294967296 empty" ∷
+    codes "sense 3 256.2.10 0" ∷
+    codes "sense 3 1.2 0" ∷
+    codes "sense 3 1.2.10 -0" ∷
+    codes "sense 3 1.2.10 -32769" ∷
+    codes "sense 3 1.2.10 32768" ∷
+    codes "leave 3 " ∷
+    codes "leave  3" ∷
+    codes "write 0 3" ∷
+    codes "stay 20 full" ∷
+    codes "refused 0 noroom" ∷
+    codes "bad move 0 2.0 0 fail" ∷
+    codes "bad write 0 2.0 0" ∷
+    codes "fault leave 1" ∷
+    codes "note 4 -1 0 0 0" ∷ []
+
+-- texts that are no history of one channel, and the first line of each that is wrong: another channel; a position out
+-- of turn; a tag without a call; a CR; a last line without LF; too many entries for any channel
+abbrev pub wrong_history_texts : List Text
+wrong_history_texts =
+    lines_text (codes "channel 1 0" ∷ []) ∷
+    lines_text (codes "channel 0 1" ∷ codes "1 0.0 trim 3" ∷ []) ∷
+    lines_text (codes "channel 0 1" ∷ codes "0 0 trim 3" ∷ []) ∷
+    lines_text ((codes "channel 0 1" ++ 13 ∷ []) ∷ codes "0 0.0 trim 3" ∷ []) ∷
+    (lines_text (codes "channel 0 1" ∷ []) ++ codes "0 0.0 trim 3") ∷
+    lines_text (codes "channel 0 4194305" ∷ []) ∷ []
+
+abbrev pub wrong_history_lines : List ℕ
+wrong_history_lines = 1 ∷ 2 ∷ 2 ∷ 1 ∷ 2 ∷ 1 ∷ []

@@ -70,7 +70,10 @@ pub use stripe_laws::{
 };
 pub use superblock::{SbInfo, SbState};
 pub use tag::Tag;
-pub use text_examples::{example_kinds, example_numbers, example_replies, example_runs};
+pub use text_examples::{
+    example_histories_read, example_kinds, example_kinds_read, example_numbers, example_replies,
+    example_runs,
+};
 pub use trace::{Content, Trace, TraceCall, Verb};
 pub use trace_examples::{
     example_contents, example_trace, example_trace_faults, example_trace_limits,

@@ -1,10 +1,13 @@
 //! The texts of numbers, entries, replies and runs at examples that were worked out by hand.
-ghost use Rattle.std.specs.Prelude.{◌≡◌, ◌∷◌, [], codes, decimal, map, pos, negsuc, Some, None, true, false};
+ghost use Rattle.std.specs.Prelude.{◌≡◌, ◌∷◌, [], codes, decimal, map, pos, negsuc, Some, None, true, false, Ok, Err, ◌++◌};
 ghost use Rattle.ssd_geo.specs.Numbers.{bytes_of_hex, hex_of_bytes, number_below, number_of_text, signed_of_text};
-ghost use Rattle.ssd_geo.specs.EntryText.{kind_text, spaced};
+ghost use Rattle.ssd_geo.specs.EntryText.{kind_text, kind_words, histories_text, spaced};
+ghost use Rattle.ssd_geo.specs.HistoryText.{read_history};
+ghost use Rattle.ssd_geo.specs.Lines.{words_in};
+ghost use Rattle.ssd_geo.specs.KindOfWords.{kind_of_words};
 ghost use Rattle.ssd_geo.specs.ReplyText.{reply_words};
 ghost use Rattle.ssd_geo.specs.RunText.{run_text};
-ghost use Rattle.ssd_geo.specs.TextExamples.{one_page_history, one_page_kinds, one_page_replies, one_page_summary, one_page_text, no_calls_text, some_kinds, some_kind_texts, some_replies, some_reply_texts};
+ghost use Rattle.ssd_geo.specs.TextExamples.{one_page_history, one_page_kinds, one_page_replies, one_page_summary, one_page_text, no_calls_text, some_kinds, some_kind_texts, some_replies, some_reply_texts, no_kind_texts, wrong_history_texts, wrong_history_lines};
 
 /// Numbers have one spelling each: neither a leading zero nor a sign too many is read.
 pub fn example_numbers()
@@ -37,4 +40,20 @@ pub fn example_runs()
     ensures one_page_summary { run_text false 2 (one_page_history ∷ []) (one_page_kinds ∷ []) (one_page_replies ∷ []) 0
         ≡ one_page_summary }
     ensures no_calls { run_text true 2 ([] ∷ []) ([] ∷ []) ([] ∷ []) 0 ≡ no_calls_text }
+{}
+
+/// What steps did is read from its words, and the words of nothing that a step did are refused.
+pub fn example_kinds_read()
+    ensures read { map (λ kind. kind_of_words (kind_words kind)) some_kinds ≡ map (λ kind. Some kind) some_kinds }
+    ensures refused { map (λ text. kind_of_words (words_in text)) no_kind_texts ≡ map (λ text. None) no_kind_texts }
+{}
+
+/// Histories are read from their text; a text with more is refused at its first other line, and one that ends too
+/// early at one more than its last.
+pub fn example_histories_read()
+    ensures read { read_history 2 (histories_text (one_page_history ∷ [] ∷ [])) ≡ Ok (one_page_history ∷ [] ∷ []) }
+    ensures more { read_history 1 one_page_text ≡ Err 6 }
+    ensures fewer { read_history 2 (histories_text (one_page_history ∷ [])) ≡ Err 6 }
+    ensures nothing { read_history 1 [] ≡ Err 1 }
+    ensures wrong { map (read_history 1) wrong_history_texts ≡ map (λ line. Err line) wrong_history_lines }
 {}
