@@ -1,6 +1,7 @@
 -- Which cycles spell an operation? The operations and their first and last commands are ONFI's; the order of the
 -- cycles, the five address cycles and the refusal of feature addresses below 80h are this project's profile.
 use Rattle.std.specs.Prelude.{◌≡◌, ℕ, ◌-◌, ◌/◌, ◌%◌, ◌^◌, ◌<◌, ◌≤◌, ⊤, List, [], ◌∷◌, ◌++◌, map, length, take, drop, slice_index_or}
+use Rattle.std.specs.List.{AllByRecursion}
 use Rattle.onfi_cmd.specs.declared.cycle.Cycle.{Cycle}
 use Rattle.onfi_cmd.specs.declared.cycle.Cycle.TheVariants.{Command, Address, Byte}
 use Rattle.onfi_cmd.specs.declared.op.Op.{Op}
@@ -34,15 +35,15 @@ HasRowInRange Reset = ⊤
 HasRowInRange (SetFeatures address params) = ⊤
 HasRowInRange (GetFeatures address) = ⊤
 
--- the operation's feature address, if it has one, isn't below 80h
-abbrev pub HasOwnFeature : Op → Type 0
-HasOwnFeature (Read column row) = ⊤
-HasOwnFeature (Program column row) = ⊤
-HasOwnFeature (Erase row) = ⊤
-HasOwnFeature Status = ⊤
-HasOwnFeature Reset = ⊤
-HasOwnFeature (SetFeatures address params) = 0x80 ≤ address
-HasOwnFeature (GetFeatures address) = 0x80 ≤ address
+-- the operation's feature address, if it has one, isn't below 80h, and its parameters, if it has any, are four
+abbrev pub HasItsFeature : Op → Type 0
+HasItsFeature (Read column row) = ⊤
+HasItsFeature (Program column row) = ⊤
+HasItsFeature (Erase row) = ⊤
+HasItsFeature Status = ⊤
+HasItsFeature Reset = ⊤
+HasItsFeature (SetFeatures address params) = (0x80 ≤ address) × (length params ≡ 4)
+HasItsFeature (GetFeatures address) = 0x80 ≤ address
 
 -- a program has data bytes, and no other operation has any
 abbrev pub HasItsBytes : Op → List ℕ → Type 0
@@ -68,7 +69,7 @@ HasNoOtherBytes (GetFeatures address) bytes = bytes ≡ []
 pub record Spells (cycles : List Cycle) (op : Op) (bytes : List ℕ) : Type 0 where
   pub cycles_are : cycles ≡ cycles_of op bytes
   pub row : HasRowInRange op
-  pub feature : HasOwnFeature op
+  pub feature : HasItsFeature op
   pub data_bytes : HasItsBytes op bytes
 
 -- the number in a cycle
@@ -76,6 +77,10 @@ abbrev pub value_of : Cycle → ℕ
 value_of (Command byte) = byte
 value_of (Address byte) = byte
 value_of (Byte byte) = byte
+
+-- the number in each cycle is a byte
+abbrev pub IsOfBytes : List Cycle → Type 0
+IsOfBytes cycles = AllByRecursion (λ cycle. value_of cycle < 256) cycles
 
 -- the number in cycle k
 abbrev pub value_at : List Cycle → ℕ → ℕ

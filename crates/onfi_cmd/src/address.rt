@@ -1,5 +1,5 @@
 ghost use Rattle.std.specs.Prelude.{◌≡◌, ◌<◌, ◌^◌, ◌≤◌};
-ghost use Rattle.onfi_cmd.specs.Addresses.{params_of_level, row_of_page, stride_of};
+ghost use Rattle.onfi_cmd.specs.Addresses.{block_of_row, level_of_params, page_of_row, params_of_level, row_of_page, stride_of};
 
 use ssd_geo::Shape;
 
@@ -9,13 +9,16 @@ pub fn row_address(shape: &Shape, sb: u16, page: u16) -> u32
     requires page { page < shape.now.pages }
     ensures row { result ≡ row_of_page shape.now.pages sb page }
     ensures bound { result < 2 ^ 24 }
+    ensures same_block { block_of_row shape.now.pages result ≡ sb }
+    ensures same_page { page_of_row shape.now.pages result ≡ page }
 {
     u32::from(page) + u32::from(sb) * stride(shape.pages)
 }
 
 /// The four parameters that set the read level: its two bytes, low byte first, and two zeros.
 pub fn level_params(level: i16) -> [u8; 4]
-    ensures { result ≡ params_of_level level }
+    ensures params { result ≡ params_of_level level }
+    ensures same_level { level_of_params result ≡ level }
 {
     let [low, high] = level.to_le_bytes();
     [low, high, 0, 0]
