@@ -1,7 +1,7 @@
 -- Do the histories hold each call once, whole and in its actor's order? Each entry belongs to a call of the trace, on
 -- its page's or named channel; the calls of one actor come in their order; the steps of an answered call are those of its
 -- verb; and an actor's first call that wasn't answered may have begun such steps.
-use Rattle.std.specs.Prelude.{ℕ, ◌≡◌, ◌/◌, ◌%◌, ◌≤◌, ◌<◌, ◌==◌, nat_lt, nat_le, Bool, true, false, ◌&&◌, ◌||◌, not, IsTrue, List, [], ◌∷◌, ◌++◌, length, All, count_by, sum_by, flat_map, slice_index_or, slice_get, Option, Some, None, is_some, option_map, IsSomeAnd, ⊤}
+use Rattle.std.specs.Prelude.{ℕ, ◌≡◌, ◌/◌, ◌%◌, ◌≤◌, ◌==◌, nat_lt, nat_le, Bool, true, false, ◌&&◌, ◌||◌, not, IsTrue, List, [], ◌∷◌, ◌++◌, length, All, count_by, sum_by, flat_map, slice_index_or, slice_get, Option, Some, is_some, option_map, IsSomeAnd, ⊤}
 use Rattle.std.specs.List.{enumerate_from, list_all, list_any}
 use Rattle.std.specs.Option.{ForSome}
 use Rattle.ssd_geo.specs.CallSteps.{CallStep, steps_of}
@@ -16,7 +16,6 @@ use Rattle.ssd_geo.specs.Start.{Start}
 use Rattle.ssd_geo.specs.declared.base.ChannelBase.{ChannelBase}
 use Rattle.ssd_geo.specs.declared.entry.Entry.{Entry}
 use Rattle.ssd_geo.specs.declared.kind.Kind.{Kind}
-use Rattle.ssd_geo.specs.declared.reply.RefreshReply.{RefreshReply}
 use Rattle.ssd_geo.specs.declared.reply.Reply.{Reply}
 use Rattle.ssd_geo.specs.declared.tag.Tag.{Tag}
 use Rattle.ssd_geo.specs.declared.trace.TraceCall.{TraceCall}

@@ -1,6 +1,6 @@
 -- Does a channel's history follow the view of its policy? The view moves on at each pick, over the table at its
 -- position, and at each erase; nothing else changes it. Each pick is then the view's answer.
-use Rattle.std.specs.Prelude.{ℕ, ◌≡◌, List, [], ◌∷◌, Option, Some, None, ⊤}
+use Rattle.std.specs.Prelude.{◌≡◌, List, [], ◌∷◌, Option, Some, None, ⊤}
 use Rattle.ssd_geo.specs.Policies.{answer_of, view_after_erase, view_after_pick}
 use Rattle.ssd_geo.specs.Room.{table_of}
 use Rattle.ssd_geo.specs.declared.base.ChannelBase.{ChannelBase}

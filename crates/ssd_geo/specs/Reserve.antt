@@ -1,8 +1,8 @@
 -- Can a victim always be emptied, and is a channel never worn or full? The reserve holds where there is a free
 -- superblock, or a victim whose live pages fit into the frontier. A lawful history keeps it as long as no program and no
 -- erase fails.
-use Rattle.std.specs.Prelude.{ℕ, nat_le, Bool, true, false, ◌||◌, not, List, Option, Some, None}
-use Rattle.std.specs.List.{list_all, range_with_len}
+use Rattle.std.specs.Prelude.{nat_le, Bool, true, false, ◌||◌, not, List, Some, None}
+use Rattle.std.specs.List.{list_all}
 use Rattle.ssd_geo.specs.Blocks.{slots_left}
 use Rattle.ssd_geo.specs.PastBlocks.{blocks_of, slots_in}
 use Rattle.ssd_geo.specs.Room.{count_of_free, live_of, victim_of}

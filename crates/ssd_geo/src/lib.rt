@@ -9,6 +9,7 @@ mod code_examples;
 mod contents;
 mod decoding_laws;
 mod entry;
+mod generated_examples;
 mod head;
 mod history_examples;
 mod image_examples;
@@ -43,6 +44,7 @@ pub use code_examples::{example_bits, example_fault, example_word};
 pub use contents::Contents;
 pub use decoding_laws::{accepted_rows_are_layers, layer_keeps_bounds, row_rule_is_bounded};
 pub use entry::Entry;
+pub use generated_examples::{example_generated_head, example_generated_work};
 pub use head::ImageHead;
 pub use history_examples::{example_sizes, simple_histories};
 pub use image_examples::{
