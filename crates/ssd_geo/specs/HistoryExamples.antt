@@ -109,3 +109,119 @@ overwritten_history =
     ∷ step 0 2 (Kind.Sense 2 (place 2 0 0) (pos 0))
     ∷ step 0 2 (Kind.Leave 2)
     ∷ []
+
+-- two superblocks whose blocks on die 0 are weak from the start
+abbrev pub weak_on_die_0 : List Weak
+weak_on_die_0 =
+    record { channel = 0; die = 0; sb = 2; «from» = 0 } ∷ record { channel = 0; die = 0; sb = 3; «from» = 0 } ∷ []
+
+-- calls that make one write collect: thirteen writes, of which the last finds no room
+abbrev pub collected_history : List Entry
+collected_history =
+    step 0 0 (Kind.Write 0 (slot_at 0 0))
+    ∷ step 0 1 (Kind.Write 1 (slot_at 0 1))
+    ∷ step 0 2 (Kind.Write 2 (slot_at 0 2))
+    ∷ step 0 3 (Kind.Write 3 (slot_at 0 3))
+    ∷ step 0 4 (Kind.Write 4 (slot_at 1 0))
+    ∷ step 0 5 (Kind.Write 5 (slot_at 1 1))
+    ∷ step 0 6 (Kind.Write 6 (slot_at 1 2))
+    ∷ step 0 7 (Kind.Write 7 (slot_at 1 3))
+    ∷ step 0 8 (Kind.Write 0 (slot_at 2 0))
+    ∷ step 0 9 (Kind.Write 1 (slot_at 2 1))
+    ∷ step 0 10 (Kind.Write 2 (slot_at 2 2))
+    ∷ step 0 11 (Kind.Write 4 (slot_at 2 3))
+    ∷ step 0 12 (Kind.Pick 0)
+    ∷ step 0 12 (Kind.Look 3 (page 0 3 3) true)
+    ∷ step 0 12 (Kind.Sense 13 (place 2 0 1) (pos 0))
+    ∷ step 0 12 (Kind.Move 13 (slot_at 3 0))
+    ∷ step 0 12 (Kind.Leave 13)
+    ∷ step 0 12 (Kind.Erase 0)
+    ∷ step 0 12 (Kind.Write 5 (slot_at 3 1))
+    ∷ []
+
+-- two superblocks are weak on die 0: a write and a copy fail, and the channel is worn
+abbrev pub worn_history : List Entry
+worn_history =
+    step 0 0 (Kind.Write 0 (slot_at 0 0))
+    ∷ step 0 1 (Kind.Write 1 (slot_at 0 1))
+    ∷ step 0 2 (Kind.Write 2 (slot_at 0 2))
+    ∷ step 0 3 (Kind.Write 3 (slot_at 0 3))
+    ∷ step 0 4 (Kind.Write 4 (slot_at 1 0))
+    ∷ step 0 5 (Kind.Write 5 (slot_at 1 1))
+    ∷ step 0 6 (Kind.Write 6 (slot_at 1 2))
+    ∷ step 0 7 (Kind.Write 7 (slot_at 1 3))
+    ∷ step 0 8 (Kind.BadWrite 0 (slot_at 2 0) 0 false)
+    ∷ step 0 8 (Kind.Refused 0 false)
+    ∷ step 0 9 (Kind.Trim 1)
+    ∷ step 0 10 (Kind.Pick 0)
+    ∷ step 0 10 (Kind.Look 0 (page 0 0 0) true)
+    ∷ step 0 10 (Kind.Sense 12 (place 1 0 0) (pos 0))
+    ∷ step 0 10 (Kind.Move 12 (slot_at 3 0))
+    ∷ step 0 10 (Kind.Leave 12)
+    ∷ step 0 10 (Kind.Look 2 (page 0 2 2) true)
+    ∷ step 0 10 (Kind.Sense 16 (place 0 0 1) (pos 0))
+    ∷ step 0 10 (Kind.BadCopy 16 (slot_at 3 1) 0 false)
+    ∷ step 0 10 (Kind.Leave 16)
+    ∷ step 0 10 (Kind.Look 2 (page 0 2 2) true)
+    ∷ step 0 10 (Kind.Sense 20 (place 0 0 1) (pos 0))
+    ∷ step 0 10 (Kind.Stay 20 true)
+    ∷ step 0 10 (Kind.Leave 20)
+    ∷ step 0 10 (Kind.Refused 0 true)
+    ∷ step 0 11 (Kind.Look 3 (page 0 3 3) true)
+    ∷ step 0 11 (Kind.Sense 25 (place 2 0 1) (pos 0))
+    ∷ step 0 11 (Kind.Leave 25)
+    ∷ []
+
+-- a look stands in the victim while its rows are trimmed and written anew
+abbrev pub pinned_history : List Entry
+pinned_history =
+    step 0 0 (Kind.Write 0 (slot_at 0 0))
+    ∷ step 0 1 (Kind.Write 1 (slot_at 0 1))
+    ∷ step 0 2 (Kind.Write 2 (slot_at 0 2))
+    ∷ step 0 3 (Kind.Write 3 (slot_at 0 3))
+    ∷ step 1 0 (Kind.Look 0 (page 0 0 0) true)
+    ∷ step 1 0 (Kind.Sense 4 (place 1 0 0) (pos 0))
+    ∷ step 0 4 (Kind.Trim 0)
+    ∷ step 0 5 (Kind.Trim 1)
+    ∷ step 0 6 (Kind.Trim 2)
+    ∷ step 0 7 (Kind.Trim 3)
+    ∷ step 2 0 (Kind.Pick 0)
+    ∷ step 0 8 (Kind.Write 0 (slot_at 1 0))
+    ∷ step 1 0 (Kind.Changed 4 (page 1 0 8))
+    ∷ step 1 0 (Kind.Leave 4)
+    ∷ step 2 0 (Kind.Erase 0)
+    ∷ []
+
+-- a die's call fails in a sense
+abbrev pub faulted_history : List Entry
+faulted_history =
+    step 0 0 (Kind.Write 0 (slot_at 0 0))
+    ∷ step 0 1 (Kind.Look 0 (page 0 0 0) false)
+    ∷ step 0 1 (Kind.FaultSense 1 (place 1 0 0) (pos 0))
+    ∷ step 0 1 (Kind.Leave 1)
+    ∷ step 0 2 (Kind.Look 0 (page 0 0 0) false)
+    ∷ step 0 2 (Kind.Sense 4 (place 1 0 0) (pos 0))
+    ∷ step 0 2 (Kind.Leave 4)
+    ∷ []
+
+-- a collect of a blank channel has nothing to do
+abbrev pub idle_history : List Entry
+idle_history =
+    step 0 0 (Kind.Note 4 None 0 0 0)
+    ∷ []
+
+-- a collect copies the one live page of a superblock and erases it
+abbrev pub freed_history : List Entry
+freed_history =
+    step 0 0 (Kind.Write 0 (slot_at 0 0))
+    ∷ step 0 1 (Kind.Write 0 (slot_at 0 1))
+    ∷ step 0 2 (Kind.Write 0 (slot_at 0 2))
+    ∷ step 0 3 (Kind.Write 0 (slot_at 0 3))
+    ∷ step 0 4 (Kind.Write 1 (slot_at 1 0))
+    ∷ step 0 5 (Kind.Pick 0)
+    ∷ step 0 5 (Kind.Look 0 (page 0 3 3) true)
+    ∷ step 0 5 (Kind.Sense 6 (place 2 0 1) (pos 0))
+    ∷ step 0 5 (Kind.Move 6 (slot_at 1 1))
+    ∷ step 0 5 (Kind.Leave 6)
+    ∷ step 0 5 (Kind.Erase 0)
+    ∷ []

@@ -46,7 +46,7 @@ pub use decoding_laws::{accepted_rows_are_layers, layer_keeps_bounds, row_rule_i
 pub use entry::Entry;
 pub use generated_examples::{example_generated_head, example_generated_work};
 pub use head::ImageHead;
-pub use history_examples::{example_sizes, simple_histories};
+pub use history_examples::{collection, collects, example_sizes, faulted_sense, pinned_victim, simple_histories, worn_channel};
 pub use image_examples::{
     example_image, example_image_faults, example_page_in_image, example_saved_image,
     example_short_images,
