@@ -31,8 +31,9 @@ most_hints = 256
 abbrev pub with_hint : ℕ → SerialState → SerialState
 with_hint page state =
     elim (nat_lt (length state.hints) most_hints) [
-      true ↦ record state { hints = state.hints ++ page ∷ [] }
-    | false ↦ record state { dropped = state.dropped + 1 } ]
+      | true ↦ record state { hints = state.hints ++ page ∷ [] }
+      | false ↦ record state { dropped = state.dropped + 1 }
+    ]
 
 -- a run after a channel came to another past
 abbrev pub with_past : ℕ → List Entry → ChannelRun → SerialState → SerialState
@@ -72,8 +73,9 @@ is_hint _ = false
 abbrev pub reply_of_read : List (Tag × List ℕ) → ℕ → Tag → SerialState → Option Reply
 reply_of_read contents channel tag state =
     elim (slice_get state.channels channel) [
-      Some run ↦ read_reply run.start.base.shape.bytes (ladder_in contents run) (steps_of tag run.past)
-    | None ↦ None ]
+      | Some run ↦ read_reply run.start.base.shape.bytes (ladder_in contents run) (steps_of tag run.past)
+      | None ↦ None
+    ]
 
 -- a run after a read came to its end: the page is pushed where the read is a hint
 abbrev pub after_read : List (Tag × List ℕ) → ℕ → Tag → ℕ → SerialState → SerialState
@@ -100,14 +102,14 @@ without_hint rest state = record state { hints = rest }
 pub data SerialDrain (contents : List (Tag × List ℕ)) (channels : ℕ) (tag : Tag) : ℕ → List ℕ → SerialState → SerialState → Type 0 where
   has_taken_all : {before : SerialState} → SerialDrain contents channels tag 0 [] before before
   finds_none : {count : ℕ} {before : SerialState} → before.hints ≡ []
-    → SerialDrain contents channels tag count [] before before
+      → SerialDrain contents channels tag count [] before before
   takes : {count page : ℕ} {rest pages : List ℕ} {before between after : SerialState} → before.hints ≡ page ∷ rest
-    → DrainedRefresh contents channels tag page (without_hint rest before) between false
-    → SerialDrain contents channels tag count pages between after
-    → SerialDrain contents channels tag (suc count) (page ∷ pages) before after
+      → DrainedRefresh contents channels tag page (without_hint rest before) between false
+      → SerialDrain contents channels tag count pages between after
+      → SerialDrain contents channels tag (suc count) (page ∷ pages) before after
   faults : {count page : ℕ} {rest : List ℕ} {before after : SerialState} → before.hints ≡ page ∷ rest
-    → DrainedRefresh contents channels tag page (without_hint rest before) after true
-    → SerialDrain contents channels tag (suc count) (page ∷ []) before after
+      → DrainedRefresh contents channels tag page (without_hint rest before) after true
+      → SerialDrain contents channels tag (suc count) (page ∷ []) before after
 
 -- the pages that a reply says were drained
 abbrev pub pages_drained : Reply → List ℕ
@@ -138,10 +140,10 @@ SerialCall contents channels tag reply (Verb.Age channel die sb amount) before a
 pub data AreServed (contents : List (Tag × List ℕ)) (replies : List (List Reply)) (channels : ℕ) : List TraceCall → SerialState → SerialState → Type 0 where
   none_left : {before : SerialState} → AreServed contents replies channels [] before before
   serves : {call : TraceCall} {calls : List TraceCall} {reply : Reply} {before between after : SerialState}
-    → reply_to replies call.tag ≡ Some reply
-    → SerialCall contents channels call.tag reply call.verb before between
-    → AreServed contents replies channels calls between after
-    → AreServed contents replies channels (call ∷ calls) before after
+      → reply_to replies call.tag ≡ Some reply
+      → SerialCall contents channels call.tag reply call.verb before between
+      → AreServed contents replies channels calls between after
+      → AreServed contents replies channels (call ∷ calls) before after
 
 -- a run before its first call
 abbrev pub first_state : List Start → SerialState

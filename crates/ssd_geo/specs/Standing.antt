@@ -45,10 +45,10 @@ pub record IsDueBlock (start : Start) (die sb : ℕ) : Type 0 where
   pub at_least : due_pages start.base.shape.dies sb (block_at start.base.blocks sb).used die ≤ length (cells_at start die sb).pages
   pub at_most : length (cells_at start die sb).pages ≤ start.base.shape.pages
   pub exact :
-    IsTrue (not (States.is_bad (block_at start.base.blocks sb).state))
+      IsTrue (not (States.is_bad (block_at start.base.blocks sb).state))
       → length (cells_at start die sb).pages ≡ due_pages start.base.shape.dies sb (block_at start.base.blocks sb).used die
   pub erases :
-    IsTrue (not (States.is_bad (block_at start.base.blocks sb).state))
+      IsTrue (not (States.is_bad (block_at start.base.blocks sb).state))
       → (cells_at start die sb).erases ≡ (block_at start.base.blocks sb).erases
   pub whole : All (λ levels. length levels ≡ start.base.shape.nb * start.base.shape.z) (cells_at start die sb).pages
 

@@ -1,8 +1,17 @@
 //! Histories that are lawful, and histories that aren't since one entry is another.
 ghost use Rattle.std.specs.Prelude.{[]};
 ghost use Rattle.ssd_geo.specs.HistoryExamples.{
-    AreWithinLimits, IsLawfulExample, collected_history, faulted_history, freed_history, idle_history, overwritten_history,
-    pinned_history, trimmed_history, weak_on_die_0, worn_history
+  AreWithinLimits,
+  IsLawfulExample,
+  collected_history,
+  faulted_history,
+  freed_history,
+  idle_history,
+  overwritten_history,
+  pinned_history,
+  trimmed_history,
+  weak_on_die_0,
+  worn_history,
 };
 
 /// The sizes that the examples speak of are within the limits.

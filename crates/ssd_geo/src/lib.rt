@@ -32,6 +32,7 @@ mod superblock;
 mod tag;
 mod text_examples;
 mod trace;
+mod unlawful_examples;
 mod trace_examples;
 mod weak;
 mod word;
@@ -46,7 +47,10 @@ pub use decoding_laws::{accepted_rows_are_layers, layer_keeps_bounds, row_rule_i
 pub use entry::Entry;
 pub use generated_examples::{example_generated_head, example_generated_work};
 pub use head::ImageHead;
-pub use history_examples::{collection, collects, example_sizes, faulted_sense, pinned_victim, simple_histories, worn_channel};
+pub use history_examples::{
+    collection, collects, example_sizes, faulted_sense, pinned_victim, simple_histories,
+    worn_channel,
+};
 pub use image_examples::{
     example_image, example_image_faults, example_page_in_image, example_saved_image,
     example_short_images,
@@ -80,6 +84,7 @@ pub use trace::{Content, Trace, TraceCall, Verb};
 pub use trace_examples::{
     example_contents, example_trace, example_trace_faults, example_trace_limits,
 };
+pub use unlawful_examples::{unlawful_collections, unlawful_looks, unlawful_writes};
 pub use weak::Weak;
 pub use word::Word;
 pub use word_examples::{example_statuses, example_words};
