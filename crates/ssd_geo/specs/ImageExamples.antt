@@ -1,10 +1,11 @@
 -- Which images are read by hand, to see that the definitions of images say what is meant?
-use Rattle.std.specs.Prelude.{replicate, true, map, ℕ, ◌+◌, length, false, List, [], ◌∷◌, ◌++◌, take, drop, pos, negsuc, Ok, Err}
+use Rattle.std.specs.Prelude.{Result, replicate, true, map, ℕ, ◌+◌, length, false, List, [], ◌∷◌, ◌++◌, take, drop, pos, negsuc, Ok, Err}
 use Rattle.ssd_geo.specs.Fields.{Fault, Reading}
 use Rattle.ssd_geo.specs.Bits.{bits_of}
 use Rattle.ssd_geo.specs.Cells.{aim_of_bit}
 use Rattle.ssd_geo.specs.Codewords.{word_of}
-use Rattle.ssd_geo.specs.ImageContents.{Saved, blank_saved}
+use Rattle.ssd_geo.specs.ImageContents.{image_bytes, Saved, blank_saved}
+use Rattle.ssd_geo.specs.declared.weak.Weak.{Weak}
 use Rattle.ssd_geo.specs.declared.row.Row.TheVariants.{Empty, Page}
 use Rattle.ssd_geo.specs.declared.superblock.SbState.TheVariants.{Frontier}
 use Rattle.ssd_geo.specs.ImageHead.{Head, matrix_of, with_next_session, read_head}
@@ -52,10 +53,6 @@ small_head = record {
   full = false;
 }
 
--- the image with these bytes at a place
-abbrev pub with_bytes_at : ℕ → List ℕ → List ℕ
-with_bytes_at place bytes = take place small_image ++ bytes ++ drop (place + length bytes) small_image
-
 -- the fault of an input that has no head
 abbrev pub fault_or : {A : Type 0} → Fault → Reading A → Fault
 fault_or other (Ok read) = other
@@ -75,17 +72,29 @@ saved_small_image =
 abbrev pub saved_small_head : Head
 saved_small_head = with_next_session small_head true
 
--- the image of two channels with a weak block and a factory bad superblock: the fields after the base matrix
+-- a list of bytes with some in place of those from a place on
+abbrev pub with_bytes : List ℕ → ℕ → List ℕ → List ℕ
+with_bytes image place bytes = take place image ++ bytes ++ drop (place + length bytes) image
+
+-- the blank image with other bytes after its base matrix, and room for fewer rows a channel
 abbrev pub small_image_with : List ℕ → List ℕ
-small_image_with lists = take 88 small_image ++ lists
+small_image_with lists = take 24 small_image ++ 4 ∷ drop 25 (take 88 small_image) ++ lists
 
--- the fields of an image after its first nine bytes, of these many channels
-abbrev pub with_channels : ℕ → List ℕ → List ℕ
-with_channels channels image = take 8 image ++ channels ∷ drop 9 image
+-- a weak block, and a factory bad superblock
+abbrev pub weak_at : ℕ → ℕ → List ℕ
+weak_at die sb = 0 ∷ die ∷ sb ∷ 0 ∷ 7 ∷ 0 ∷ 0 ∷ 0 ∷ []
 
--- the saved image with these bytes in place of those of its contents from a place on
-abbrev pub saved_with : ℕ → List ℕ → List ℕ
-saved_with place bytes = take place saved_small_image ++ bytes ++ drop (place + length bytes) saved_small_image
+abbrev pub bad_at : ℕ → List ℕ
+bad_at sb = 0 ∷ 0 ∷ sb ∷ 0 ∷ []
+
+-- the weak and the factory bad blocks of a head
+abbrev pub lists_of : Reading Head → Result (List Weak × List (ℕ × ℕ)) Fault
+lists_of (Ok read) = let head : Head = read.0 in Ok (head.weak, head.bad)
+lists_of (Err fault) = Err fault
+
+-- those of the blank image with other bytes after its base matrix
+abbrev pub read_lists : List ℕ → Result (List Weak × List (ℕ × ℕ)) Fault
+read_lists lists = lists_of (read_head (small_image_with lists))
 
 -- the word of the page that row 5 has after one write of 01h 02h: the payload is a serial of 0, the row, the four bytes
 -- of a page head and the data
@@ -106,3 +115,7 @@ one_page_saved =
           } ∷ map (blank_saved small_head 0) (1 ∷ 2 ∷ 3 ∷ []);
       rows = replicate 5 Empty ++ Page (record { sb = 0; index = 0 }) 0 ∷ replicate 2 Empty;
     }
+
+-- the image with it
+abbrev pub page_image : List ℕ
+page_image = image_bytes saved_small_head (one_page_saved ∷ [])

@@ -52,8 +52,8 @@ pub use history_examples::{
     worn_channel,
 };
 pub use image_examples::{
-    example_image, example_image_faults, example_page_in_image, example_saved_image,
-    example_short_images,
+    example_contents_faults, example_image, example_image_faults, example_image_lists,
+    example_page_in_image, example_saved_image, example_short_images,
 };
 pub use items::Items;
 pub use kind::Kind;
