@@ -1,4 +1,5 @@
 pub mod AcceptedLayers
+pub mod BitsOfBytes
 pub mod DecodingBounds
 pub mod Payloads
 pub mod SenseValues
