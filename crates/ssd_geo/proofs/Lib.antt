@@ -1,6 +1,7 @@
 pub mod AcceptedLayers
 pub mod BitsOfBytes
 pub mod DecodingBounds
+pub mod NumberLaws
 pub mod Payloads
 pub mod SenseValues
 pub mod StripeLists

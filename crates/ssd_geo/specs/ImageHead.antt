@@ -1,10 +1,11 @@
 -- Which bytes are the head of an image, and what is the first fault of those that aren't? The fields are tested in the
 -- order of the file, each as soon as it is read. The format is this project's own.
-use Rattle.std.specs.Prelude.{ℕ, zero, suc, ◌+◌, ◌-◌, ◌*◌, ◌/◌, ◌%◌, ◌^◌, ◌==◌, nat_lt, nat_le, Bool, true, ◌&&◌, ◌||◌, not, if◌then◌else◌, List, [], ◌∷◌, ◌++◌, length, flat_map, count_by, option_map, slice_get, codes, ℤ, pos, negsuc, int_lt, int_le, Option, Some, None, Ok, Err}
+use Rattle.std.specs.Prelude.{◌≡◌, IsTrue, ℕ, zero, suc, ◌+◌, ◌-◌, ◌*◌, ◌/◌, ◌%◌, ◌^◌, ◌==◌, nat_lt, nat_le, Bool, true, ◌&&◌, ◌||◌, not, if◌then◌else◌, List, [], ◌∷◌, ◌++◌, length, flat_map, count_by, option_map, slice_get, codes, ℤ, pos, negsuc, int_lt, int_le, Option, Some, None, Ok, Err}
 use Rattle.std.specs.Int.{w8, w16, w32, w64, to_le_bytes}
+use Rattle.std.specs.List.{list_all}
 use Rattle.std.specs.Option.{option_map_or}
 use Rattle.ssd_geo.specs.BaseMatrix.{BaseMatrix, MatrixFault, entry_range, parity_column, diagonal as diagonal_of, first_fault}
-use Rattle.ssd_geo.specs.Fields.{Rest, Fault, Reading, ◌>>=◌, bytes_field, number_field, signed_field, text_field, signed_of_bytes, bytes_of_signed, is_any, is_within, is_below, is_signed_within, level_fields}
+use Rattle.ssd_geo.specs.Fields.{Rest, Fault, Reading, ◌>>=◌, bytes_field, number_field, signed_field, text_field, signed_of_bytes, bytes_of_signed, is_any, is_within, is_below, is_level, is_signed_within, level_fields}
 use Rattle.ssd_geo.specs.InputFaults.{range, entry, parity, diagonal, order}
 use Rattle.ssd_geo.specs.Limits.{cells_of}
 use Rattle.ssd_geo.specs.declared.cell_law.CellLaw.{CellLaw}
@@ -292,3 +293,59 @@ head_bytes head =
 -- a head as a drive is saved or formatted with it: the session is the next one
 abbrev pub with_next_session : Head → Bool → Head
 with_next_session head full = record head { session = (head.session + 1) % 2 ^ 24; full = full }
+
+-- whether a weak block is one of a drive, and stands after those before
+abbrev pub is_weak_record : Sizes → List Weak → Weak → Bool
+is_weak_record sizes before weak =
+    is_below sizes.channels weak.channel && is_below sizes.dies weak.die && is_below sizes.superblocks weak.sb
+    && comes_after is_weak_before before weak
+
+abbrev pub are_weak_records : Sizes → List Weak → List Weak → Bool
+are_weak_records sizes before [] = true
+are_weak_records sizes before (weak ∷ more) =
+    is_weak_record sizes before weak && are_weak_records sizes (before ++ weak ∷ []) more
+
+-- whether a factory bad superblock is one of a drive, stands after those before, and leaves room for the rows
+abbrev pub is_bad_record : Sizes → List (ℕ × ℕ) → ℕ × ℕ → Bool
+is_bad_record sizes before bad =
+    is_below sizes.channels bad.0 && is_below sizes.superblocks bad.1 && comes_after is_bad_before before bad
+    && rows_fit sizes before bad.0
+
+abbrev pub are_bad_records : Sizes → List (ℕ × ℕ) → List (ℕ × ℕ) → Bool
+are_bad_records sizes before [] = true
+are_bad_records sizes before (bad ∷ more) =
+    is_bad_record sizes before bad && are_bad_records sizes (before ++ bad ∷ []) more
+
+-- a head that has a spelling: each field is in its range
+pub record IsHead (head : Head) : Type 0 where
+  pub channels : IsTrue (is_within 1 8 head.sizes.channels)
+  pub dies : IsTrue (is_within 3 8 head.sizes.dies)
+  pub superblocks : IsTrue (is_within 4 256 head.sizes.superblocks)
+  pub pages : IsTrue (is_within 2 256 head.sizes.pages)
+  pub lifting : IsTrue (is_within 4 1024 head.sizes.z)
+  pub base_rows : IsTrue (is_within 3 16 head.sizes.mb)
+  pub base_columns : IsTrue (is_column_count head.sizes.channels head.sizes.dies head.sizes.superblocks head.sizes.pages head.sizes.z head.sizes.mb head.sizes.nb)
+  pub level_count : IsTrue (is_within 1 16 (length head.read_levels))
+  pub iterations : IsTrue (is_within 1 64 head.iterations)
+  pub bytes : IsTrue (is_within 1 (most_bytes head.sizes.z head.sizes.mb head.sizes.nb) head.sizes.bytes)
+  pub rows : IsTrue (is_within 1 (most_rows head.sizes.superblocks head.sizes.dies head.sizes.pages 0) head.sizes.rows)
+  pub seed : IsTrue (is_below (2 ^ 64) head.law.seed)
+  pub session : IsTrue (is_below (2 ^ 24) head.session)
+  pub erased : IsTrue (is_signed_within (negsuc 8191) (pos 8190) head.law.erased)
+  pub programmed : IsTrue (is_programmed_level head.law.erased head.law.programmed)
+  pub spread : IsTrue (is_within 0 4095 head.law.spread)
+  pub step : IsTrue (is_within 1 2047 head.step)
+  pub levels : IsTrue (list_all is_level head.read_levels)
+  pub entry_count : length head.entries ≡ head.sizes.mb * head.sizes.nb
+  pub faultless : first_fault (matrix_of head) ≡ None
+  pub weak_count : IsTrue (is_below (2 ^ 16) (length head.weak))
+  pub weak_from : IsTrue (list_all (λ weak. is_below (2 ^ 32) weak.from) head.weak)
+  pub weak : IsTrue (are_weak_records head.sizes [] head.weak)
+  pub bad_count : IsTrue (is_below (2 ^ 16) (length head.bad))
+  pub bad : IsTrue (are_bad_records head.sizes [] head.bad)
+
+-- a head that was written is read again, whatever follows
+abbrev pub HeadIsRead : Type 0
+HeadIsRead =
+    (head : Head) (more : List ℕ) → IsHead head →
+    read_head (head_bytes head ++ more) ≡ Ok (head, record { place = length (head_bytes head); bytes = more })

@@ -2,8 +2,8 @@
 -- zero; one below 0 has `-` before its digits; a byte is two hexadecimal digits, the high one first. So each has one
 -- spelling. The rule is this project's own; the digits are those that the standard library prints.
 use Rattle.std.specs.Prelude.{◌≡◌, ℕ, ◌+◌, ◌-◌, ◌*◌, ◌/◌, ◌%◌, ◌^◌, ◌<◌, ◌==◌, nat_lt, nat_le, Bool, false, ◌&&◌, ◌||◌, not, if◌then◌else◌, List, [], ◌∷◌, length, flat_map, Option, Some, None, option_map, option_and_then, ℤ, pos, neg_ℤ, unsigned_abs, decimal, All}
-use Rattle.std.specs.List.{list_all}
 use Rattle.std.specs.Fmt.{digit_glyph, signed_decimal}
+use Rattle.std.specs.Str.{all_ascii_digits}
 use Rattle.std.specs.Str.Parse.{digits_value}
 
 -- a text: the list of its bytes
@@ -17,7 +17,7 @@ is_digit byte = nat_le 48 byte && nat_le byte 57
 -- whether a text is `0`, or decimal digits without a leading zero
 abbrev pub is_number : Text → Bool
 is_number [] = false
-is_number (first ∷ further) = list_all is_digit (first ∷ further) && (not (first == 48) || length further == 0)
+is_number (first ∷ further) = all_ascii_digits (first ∷ further) && (not (first == 48) || length further == 0)
 
 -- the number that a text spells, if it spells one
 abbrev pub number_of_text : Text → Option ℕ

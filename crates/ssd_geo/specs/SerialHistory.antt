@@ -11,7 +11,6 @@ use Rattle.ssd_geo.specs.Rounds.{has_fault, is_one}
 use Rattle.ssd_geo.specs.Start.{Start}
 use Rattle.ssd_geo.specs.SerialCalls.{AreStepsFrom, SerialCollect, SerialWrite}
 use Rattle.ssd_geo.specs.declared.entry.Entry.{Entry}
-use Rattle.ssd_geo.specs.declared.kind.Kind.{Kind}
 use Rattle.ssd_geo.specs.declared.reply.Reply.{Reply}
 use Rattle.ssd_geo.specs.declared.tag.Tag.{Tag}
 use Rattle.ssd_geo.specs.declared.trace.TraceCall.{TraceCall}

@@ -1,19 +1,19 @@
 -- What may a channel begin with, and which histories may it then have? A start is as an image gives it: the superblocks,
 -- rows and sum fit each other, and the dies have the pages that are due. A history of a start is lawful and follows the
 -- policy's view where that is told; and for each entry that tells of a failed call of a die, that die counted a fault.
-use Rattle.std.specs.Prelude.{ℕ, ◌≡◌, ◌^◌, ◌*◌, ◌-◌, ◌%◌, ◌≤◌, ◌<◌, ◌==◌, nat_lt, Bool, true, false, ◌&&◌, not, IsTrue, List, [], ◌∷◌, length, All, count_by, slice_index_or, Option, Some, None, option_map, ⊤}
+use Rattle.std.specs.Prelude.{ℕ, ◌≡◌, ◌^◌, ◌*◌, ◌-◌, ◌%◌, ◌≤◌, ◌<◌, ◌==◌, nat_lt, Bool, true, false, ◌&&◌, not, IsTrue, List, length, All, count_by, slice_index_or, Option, Some, None, option_map}
 use Rattle.std.specs.List.{list_any}
 use Rattle.ssd_geo.specs.BaseMatrix as BaseMatrix
 use Rattle.ssd_geo.specs.Blocks.{AreSound, block_at}
 use Rattle.ssd_geo.specs.CallSteps.{failed_die}
-use Rattle.ssd_geo.specs.Coding.{coding_of, matrix_of, word_bytes_in}
+use Rattle.ssd_geo.specs.Coding.{matrix_of, word_bytes_in}
 use Rattle.ssd_geo.specs.Codewords.{IsCodeword}
 use Rattle.ssd_geo.specs.Faults.{NeverFell, RoseBy}
 use Rattle.ssd_geo.specs.FollowedViews.{FollowsTold, view_of}
 use Rattle.ssd_geo.specs.Lawful.{IsLawful}
 use Rattle.ssd_geo.specs.PageMap.{NameApart, NameWithin}
 use Rattle.ssd_geo.specs.PastBlocks.{slots_in}
-use Rattle.ssd_geo.specs.Start.{BlockCells, Start, cells_at}
+use Rattle.ssd_geo.specs.Start.{Start, cells_at}
 use Rattle.ssd_geo.specs.States as States
 use Rattle.ssd_geo.specs.StripeSum.{zero_word}
 use Rattle.ssd_geo.specs.Superblock.{due_pages}

@@ -1,6 +1,6 @@
 -- Which histories aren't lawful? Each is one of the worked histories with one entry changed, up to that entry or to the
 -- end.
-use Rattle.std.specs.Prelude.{ℕ, ◌+◌, List, [], ◌∷◌, ◌++◌, take, drop, true, false, pos, negsuc}
+use Rattle.std.specs.Prelude.{ℕ, ◌+◌, List, [], ◌∷◌, ◌++◌, take, drop, false, negsuc}
 use Rattle.ssd_geo.specs.HistoryExamples.{collected_history, faulted_history, overwritten_history, page, pinned_history, place, step, trimmed_history, worn_history}
 use Rattle.ssd_geo.specs.PageMap.{slot_at}
 use Rattle.ssd_geo.specs.declared.entry.Entry.{Entry}

@@ -17,6 +17,7 @@ mod items;
 mod kind;
 mod look;
 mod memory;
+mod number_laws;
 mod page_examples;
 mod page_laws;
 mod place;
@@ -59,6 +60,7 @@ pub use items::Items;
 pub use kind::Kind;
 pub use look::Look;
 pub use memory::Memory;
+pub use number_laws::numbers_are_read;
 pub use page_examples::{example_payloads, example_stripe_sum, example_stripes, example_values};
 pub use page_laws::{
     heads_differ, others_give_the_word, payloads_give_their_bytes, values_are_taken,
