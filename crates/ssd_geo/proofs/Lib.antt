@@ -1,6 +1,9 @@
 pub mod AcceptedLayers
 pub mod BitsOfBytes
 pub mod DecodingBounds
+pub mod Histories
+pub mod LadderBound
+pub mod MapRows
 pub mod NumberLaws
 pub mod Payloads
 pub mod SenseValues
