@@ -43,10 +43,12 @@ soft_level coding center senses = slice_index_or (soft_levels coding.step center
 
 soft_cases : (coding : Coding) (accepts : List ℕ → Bool) (center : ℤ) (senses : List (List ℕ)) (b : Bool) → nat_lt (length senses) 5 ≡ b
     → Bounded 5 (length senses) (elim b [
-      true ↦ wants (soft_level coding center senses)
-    | false ↦ elim (accepted accepts (coding.soft (take 5 senses))) [
-        Some word ↦ found (length coding.levels) word (drop 5 senses)
-      | None ↦ missed (drop 5 senses) ] ])
+      | true ↦ wants (soft_level coding center senses)
+      | false ↦ elim (accepted accepts (coding.soft (take 5 senses))) [
+        | Some word ↦ found (length coding.levels) word (drop 5 senses)
+        | None ↦ missed (drop 5 senses)
+      ]
+    ])
 soft_cases coding accepts center senses true e = grind (arith, nat_tests)
 soft_cases coding accepts center senses false e =
     soft_found coding senses (accepted accepts (coding.soft (take 5 senses))) (grind (arith, nat_tests))
@@ -86,9 +88,10 @@ stripe_found : (coding : Coding) (accepts : List ℕ → Bool) (place : Place) (
     → Bounded (length coding.levels + 5) had state
     → ((word : List ℕ) (left : List (List ℕ)) → AsksBelow ((length coding.levels + 5) * length places) (length left) (stripe_work coding accepts places (bytes_sum sum word) left))
     → AsksBelow ((length coding.levels + 5) * suc (length places)) had (elim state [
-      wants level ↦ asks place level
-    | found rung word left ↦ stripe_work coding accepts places (bytes_sum sum word) left
-    | missed left ↦ uncorrectable ])
+      | wants level ↦ asks place level
+      | found rung word left ↦ stripe_work coding accepts places (bytes_sum sum word) left
+      | missed left ↦ uncorrectable
+    ])
 stripe_found coding accepts place places sum had (wants level) h rest = omega arith
 stripe_found coding accepts place places sum had (found rung word left) h rest =
     asks_more ((length coding.levels + 5) * length places) (length left) ((length coding.levels + 5) * suc (length places)) had
@@ -109,8 +112,9 @@ stripe_bounded coding accepts (place ∷ places) sum senses =
 
 closed_found : (coding : Coding) (accepts : List ℕ → Bool) (others : List Place) (closed : Bool) (had : ℕ) (left : List (List ℕ)) → had ≤ (length coding.levels + 5) + length left
     → AsksBelow ((length coding.levels + 5) * suc (length others)) had (elim closed [
-      true ↦ stripe_work coding accepts others (zero_word coding.word_bytes) left
-    | false ↦ uncorrectable ])
+      | true ↦ stripe_work coding accepts others (zero_word coding.word_bytes) left
+      | false ↦ uncorrectable
+    ])
 closed_found coding accepts others true had left h =
     asks_more ((length coding.levels + 5) * length others) (length left) ((length coding.levels + 5) * suc (length others)) had
     (stripe_work coding accepts others (zero_word coding.word_bytes) left) (λ below. omega arith)
@@ -120,11 +124,13 @@ closed_found coding accepts others false had left h = tt
 page_found : (coding : Coding) (accepts : List ℕ → Bool) (place : Place) (others : List Place) (closed : Bool) (had : ℕ) (state : PlaceState)
     → Bounded (length coding.levels + 5) had state
     → AsksBelow ((length coding.levels + 5) * suc (length others)) had (elim state [
-      wants level ↦ asks place level
-    | found rung word left ↦ recovered rung word
-    | missed left ↦ elim closed [
-        true ↦ stripe_work coding accepts others (zero_word coding.word_bytes) left
-      | false ↦ uncorrectable ] ])
+      | wants level ↦ asks place level
+      | found rung word left ↦ recovered rung word
+      | missed left ↦ elim closed [
+        | true ↦ stripe_work coding accepts others (zero_word coding.word_bytes) left
+        | false ↦ uncorrectable
+      ]
+    ])
 page_found coding accepts place others closed had (wants level) h = omega arith
 page_found coding accepts place others closed had (found rung word left) h = tt
 page_found coding accepts place others closed had (missed left) h = closed_found coding accepts others closed had left h
@@ -142,8 +148,13 @@ others_more : (x a n : ℕ) (b : Bool) → (a == x) ≡ b → (a + 1 ≤ x → s
     → a ≤ x → suc (length (filter (λ d. not (d == x)) (a ∷ range_with_len (a + 1) n))) ≤ suc n
 others_more x a n true e rest lo =
     let ys : List ℕ = filter (λ d. not (d == x)) (range_with_len (a + 1) n) in
-    omega (arith, kept_others x a ys true e, length-filter (λ d. not (d == x)) (range_with_len (a + 1) n),
-    count_by-le-length (λ d. not (d == x)) (range_with_len (a + 1) n), length-range_with_len (a + 1) n)
+    omega (
+      arith,
+      kept_others x a ys true e,
+      length-filter (λ d. not (d == x)) (range_with_len (a + 1) n),
+      count_by-le-length (λ d. not (d == x)) (range_with_len (a + 1) n),
+      length-range_with_len (a + 1) n,
+    )
 others_more x a n false e rest lo =
     let ys : List ℕ = filter (λ d. not (d == x)) (range_with_len (a + 1) n) in
     let above : a + 1 ≤ x = grind (arith, nat_tests) in
@@ -157,9 +168,11 @@ others_of x a (suc n) lo hi = others_more x a n (a == x) refl (λ above. others_
 other_places_few : (dies : ℕ) (place : Place) → place.die < dies → suc (length (other_places dies place)) ≤ dies
 other_places_few dies place h =
     let others : List ℕ = filter (λ die. not (die == place.die)) (range_with_len 0 dies) in
-    omega (arith,
-    length-map {B = Place} others (λ die. record { die = die; sb = place.sb; page = place.page }),
-    others_of place.die 0 dies (omega arith) (omega arith))
+    omega (
+      arith,
+      length-map {B = Place} others (λ die. record { die = die; sb = place.sb; page = place.page }),
+      others_of place.die 0 dies (omega arith) (omega arith),
+    )
 
 pub ladders_end : LaddersEnd
 ladders_end coding accepts dies place closed senses h =

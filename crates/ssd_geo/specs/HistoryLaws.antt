@@ -25,7 +25,7 @@ HistoriesReverse = (history past : List Entry) (entry : Entry) → IsReversed hi
 abbrev pub LawfulBeforeLast : Type 0
 LawfulBeforeLast =
     (ladder : List Entry → ℕ → LadderState) (base : ChannelBase) (newer past : List Entry) →
-        IsLawfulBy ladder base (newer ++ past) → IsLawfulBy ladder base past
+    IsLawfulBy ladder base (newer ++ past) → IsLawfulBy ladder base past
 
 -- a page map after a change of one of its rows, if there is one
 abbrev pub rows_after : Option (ℕ × Row) → List Row → List Row
@@ -36,7 +36,7 @@ rows_after (Some change) rows = slice_set rows change.0 change.1
 abbrev pub RowsAfterEntry : Type 0
 RowsAfterEntry =
     (base : ChannelBase) (entry : Entry) (past : List Entry) →
-        rows_of base (entry ∷ past) ≡ rows_after (row_change base.session past entry.tag entry.kind) (rows_of base past)
+    rows_of base (entry ∷ past) ≡ rows_after (row_change base.session past entry.tag entry.kind) (rows_of base past)
 
 -- a ladder that was given so many senses asks for one more only below a limit
 abbrev pub AsksBelow : ℕ → ℕ → LadderState → Type 0
@@ -48,4 +48,4 @@ AsksBelow limit senses uncorrectable = ⊤
 abbrev pub LaddersEnd : Type 0
 LaddersEnd =
     (coding : Coding) (accepts : List ℕ → Bool) (dies : ℕ) (place : Place) (closed : Bool) (senses : List (List ℕ)) → place.die < dies →
-        AsksBelow ((length coding.levels + 5) * dies) (length senses) (ladder coding accepts place (other_places dies place) closed senses)
+    AsksBelow ((length coding.levels + 5) * dies) (length senses) (ladder coding accepts place (other_places dies place) closed senses)

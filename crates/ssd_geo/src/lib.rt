@@ -49,16 +49,24 @@ pub use decoding_laws::{accepted_rows_are_layers, layer_keeps_bounds, row_rule_i
 pub use entry::Entry;
 pub use generated_examples::{example_generated_head, example_generated_work};
 pub use head::ImageHead;
-pub use history_examples::{collection, collects, example_sizes, faulted_sense, pinned_victim, simple_histories, worn_channel};
+pub use history_examples::{
+    collection, collects, example_sizes, faulted_sense, pinned_victim, simple_histories,
+    worn_channel,
+};
 pub use history_laws::{histories_reverse, ladders_end, lawful_before_last, rows_after_entry};
-pub use image_examples::{example_contents_faults, example_image, example_image_faults, example_image_lists, example_page_in_image, example_saved_image, example_short_images};
+pub use image_examples::{
+    example_contents_faults, example_image, example_image_faults, example_image_lists,
+    example_page_in_image, example_saved_image, example_short_images,
+};
 pub use items::Items;
 pub use kind::Kind;
 pub use look::Look;
 pub use memory::Memory;
 pub use number_laws::numbers_are_read;
 pub use page_examples::{example_payloads, example_stripe_sum, example_stripes, example_values};
-pub use page_laws::{heads_differ, others_give_the_word, payloads_give_their_bytes, values_are_taken};
+pub use page_laws::{
+    heads_differ, others_give_the_word, payloads_give_their_bytes, values_are_taken,
+};
 pub use place::Place;
 pub use policy_view::{PolicyKind, PolicyView};
 pub use reply::{CallKind, RefreshReply, Reply};
@@ -67,12 +75,19 @@ pub use row::Row;
 pub use shape::{Shape, ShapeFault};
 pub use slot::Slot;
 pub use stop::{ServeStop, StepStop};
-pub use stripe_laws::{data_dies_are_the_others, due_pages_add_up, due_pages_rise, slots_and_data_places_match};
+pub use stripe_laws::{
+    data_dies_are_the_others, due_pages_add_up, due_pages_rise, slots_and_data_places_match,
+};
 pub use superblock::{SbInfo, SbState};
 pub use tag::Tag;
-pub use text_examples::{example_histories_read, example_kinds, example_kinds_read, example_numbers, example_replies, example_runs};
+pub use text_examples::{
+    example_histories_read, example_kinds, example_kinds_read, example_numbers, example_replies,
+    example_runs,
+};
 pub use trace::{Content, Trace, TraceCall, Verb};
-pub use trace_examples::{example_contents, example_trace, example_trace_faults, example_trace_limits};
+pub use trace_examples::{
+    example_contents, example_trace, example_trace_faults, example_trace_limits,
+};
 pub use unlawful_examples::{unlawful_collections, unlawful_looks, unlawful_writes};
 pub use weak::Weak;
 pub use word::Word;
