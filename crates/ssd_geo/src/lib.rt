@@ -92,3 +92,6 @@ pub use unlawful_examples::{unlawful_collections, unlawful_looks, unlawful_write
 pub use weak::Weak;
 pub use word::Word;
 pub use word_examples::{example_statuses, example_words};
+
+#[cfg(test)]
+mod tests;
