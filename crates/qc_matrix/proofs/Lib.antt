@@ -1,0 +1,4 @@
+pub mod Find
+pub mod Ranges
+pub mod Accepted
+pub mod OddSums
