@@ -1,4 +1,4 @@
-ghost use Rattle.std.specs.Prelude.{◌≡◌, ◌↔◌, ◌*◌, ◌-◌, ◌<◌, ◌≤◌, IsOk, IfOk, IfErr, Some};
+ghost use Rattle.std.specs.Prelude.{◌≡◌, ◌↔◌, ◌*◌, ◌-◌, ◌<◌, ◌≤◌, ◌+◌, ◌/◌, ◌%◌, IsTrue, IsOk, IfOk, IfErr, Some};
 ghost use Rattle.ssd_geo.specs.Limits.{IsWithinLimits, first_size_fault, is_between, payload_bytes_of, word_bytes_of};
 ghost use Rattle.ssd_geo.specs.Stripe.{place_of_parity, place_of_slot};
 ghost use Rattle.ssd_geo.specs.Superblock.{slots_of};
@@ -56,58 +56,41 @@ impl Shape {
         ensures sizes { IfOk result (λ s. HasSizes s channels dies superblocks pages z mb nb bytes rows) }
         ensures fault { IfErr result (λ e. first_size_fault channels dies superblocks pages z mb nb bytes rows ≡ Some e.field) }
     {
-        if !is_in_range(1, channels as u32, 8) {
-            return Err(ShapeFault { field: 0 });
-        }
-        if !is_in_range(3, dies as u32, 8) {
-            return Err(ShapeFault { field: 1 });
-        }
-        if !is_in_range(4, superblocks as u32, 256) {
-            return Err(ShapeFault { field: 2 });
-        }
-        if !is_in_range(2, pages as u32, 256) {
-            return Err(ShapeFault { field: 3 });
-        }
-        if !is_in_range(4, z as u32, 1024) {
-            return Err(ShapeFault { field: 4 });
-        }
-        if !is_in_range(3, mb as u32, 16) {
-            return Err(ShapeFault { field: 5 });
-        }
-        if !is_in_range(mb as u32 + 1, nb as u32, 128) {
-            return Err(ShapeFault { field: 6 });
-        }
-        let word_bits = nb as u32 * z as u32;
-        let payload_bits = (nb - mb) as u32 * z as u32;
-        if payload_bits % 8 != 0
-            || word_bits % 8 != 0
-            || cells(channels, dies, superblocks, pages, word_bits) > 1 << 28
+        let field = if !is_in_range(1, channels as u32, 8) {
+            0
+        } else if !is_in_range(3, dies as u32, 8) {
+            1
+        } else if !is_in_range(4, superblocks as u32, 256) {
+            2
+        } else if !is_in_range(2, pages as u32, 256) {
+            3
+        } else if !is_in_range(4, z as u32, 1024) {
+            4
+        } else if !is_in_range(3, mb as u32, 16) {
+            5
+        } else if !is_in_range(mb as u32 + 1, nb as u32, 128)
+            || !has_whole_bytes(mb, nb, z)
+            || cells(channels, dies, superblocks, pages, nb as u32 * z as u32) > 1 << 28
         {
-            return Err(ShapeFault { field: 6 });
-        }
-        // The head of a page takes 16 bytes of its payload.
-        if bytes < 1 || payload_bits / 8 < 17 || bytes > payload_bits / 8 - 16 {
-            return Err(ShapeFault { field: 7 });
-        }
-        // Two superblocks are kept for collections.
-        if !is_in_range(
-            1,
-            rows,
-            (superblocks as u32 - 2) * (dies as u32 - 1) * pages as u32,
-        ) {
-            return Err(ShapeFault { field: 8 });
-        }
-        Ok(Shape {
-            channels,
-            dies,
-            superblocks,
-            pages,
-            z,
-            mb,
-            nb,
-            bytes,
-            rows,
-        })
+            6
+        } else if !fits_payload(bytes, mb, nb, z) {
+            7
+        } else if !is_in_range(1, rows, most_rows(dies, superblocks, pages)) {
+            8
+        } else {
+            return Ok(Shape {
+                channels,
+                dies,
+                superblocks,
+                pages,
+                z,
+                mb,
+                nb,
+                bytes,
+                rows,
+            });
+        };
+        Err(ShapeFault { field })
     }
 
     /// How many data slots a superblock has.
@@ -173,6 +156,34 @@ fn cells(channels: u8, dies: u8, superblocks: u16, pages: u16, word_bits: u32) -
     ensures { result ≡ channels * dies * superblocks * pages * word_bits }
 {
     channels as u64 * dies as u64 * superblocks as u64 * pages as u64 * word_bits as u64
+}
+
+/// Whether words and their payloads have whole bytes.
+fn has_whole_bytes(mb: u8, nb: u8, z: u16) -> bool
+    requires { mb < nb }
+    ensures { IsTrue result ↔ (((nb - mb) * z % 8 ≡ 0) × (nb * z % 8 ≡ 0)) }
+{
+    (nb - mb) as u32 * z as u32 % 8 == 0 && nb as u32 * z as u32 % 8 == 0
+}
+
+/// Whether so many data bytes, at least one, stand with a head of 16 bytes in a payload.
+fn fits_payload(bytes: u32, mb: u8, nb: u8, z: u16) -> bool
+    requires { mb < nb }
+    ensures { IsTrue result ↔ ((1 ≤ bytes) × (bytes + 16 ≤ payload_bytes_of mb nb z)) }
+{
+    let payload = (nb - mb) as u32 * z as u32 / 8;
+    bytes >= 1 && payload >= 16 && bytes <= payload - 16
+}
+
+/// The most rows of a channel: those of all superblocks but two, which are kept for collections.
+fn most_rows(dies: u8, superblocks: u16, pages: u16) -> u32
+    requires dies { 1 ≤ dies }
+    requires superblocks { 2 ≤ superblocks }
+    requires most { superblocks ≤ 256 }
+    requires pages { pages ≤ 256 }
+    ensures { result ≡ (superblocks - 2) * (dies - 1) * pages }
+{
+    (superblocks as u32 - 2) * (dies as u32 - 1) * pages as u32
 }
 
 fn is_in_range(low: u32, n: u32, high: u32) -> bool
