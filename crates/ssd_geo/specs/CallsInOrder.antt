@@ -4,14 +4,14 @@
 use Rattle.std.specs.Prelude.{ℕ, ◌≡◌, ◌/◌, ◌%◌, ◌≤◌, ◌==◌, nat_lt, nat_le, Bool, true, false, ◌&&◌, ◌||◌, not, IsTrue, List, [], ◌∷◌, ◌++◌, length, All, count_by, sum_by, flat_map, slice_index_or, slice_get, Option, Some, is_some, option_map, IsSomeAnd, ⊤}
 use Rattle.std.specs.List.{enumerate_from, list_all, list_any}
 use Rattle.std.specs.Option.{ForSome}
-use Rattle.ssd_geo.specs.CallSteps.{CallStep, steps_of}
+use Rattle.ssd_geo.specs.CallSteps.{CallStep, is_fault, steps_of}
 use Rattle.ssd_geo.specs.Coding.{coding_of}
 use Rattle.ssd_geo.specs.Copies.{IsRead, IsRefresh}
 use Rattle.ssd_geo.specs.History.{is_same_tag, open_looks}
 use Rattle.ssd_geo.specs.Ladder.{LadderState}
 use Rattle.ssd_geo.specs.PastPages.{ladder_of}
 use Rattle.ssd_geo.specs.Replies.{collect_reply, decided_pages, drained_on, is_fault_last, pages_on, read_reply, refresh_reply, reply_of_refresh, row_looked_at, single_reply, write_reply}
-use Rattle.ssd_geo.specs.Rounds.{IsCollect, IsWrite, is_one}
+use Rattle.ssd_geo.specs.Rounds.{IsCollect, IsWrite, has_fault, is_one}
 use Rattle.ssd_geo.specs.Start.{Start}
 use Rattle.ssd_geo.specs.declared.base.ChannelBase.{ChannelBase}
 use Rattle.ssd_geo.specs.declared.entry.Entry.{Entry}
@@ -49,11 +49,18 @@ pub record IsSomeRefresh (ladder : List Entry → ℕ → LadderState) (steps : 
   pub row : ℕ
   pub is_refresh : IsRefresh ladder row steps
 
--- what a drain makes on one channel: refreshes, one after the other
+-- whether a die's call failed in none of some parts but the last
+abbrev pub is_faultless_before_last : List (List CallStep) → Bool
+is_faultless_before_last [] = true
+is_faultless_before_last (part ∷ []) = true
+is_faultless_before_last (part ∷ next ∷ parts) = not (has_fault part) && is_faultless_before_last (next ∷ parts)
+
+-- what a drain makes on one channel: refreshes, one after the other, the last of which may have a failed call
 pub record AreRefreshes (ladder : List Entry → ℕ → LadderState) (steps : List CallStep) : Type 0 where
   pub refreshes : List (List CallStep)
   pub are_steps : steps ≡ flat_map (λ refresh. refresh) refreshes
   pub each : All (IsSomeRefresh ladder) refreshes
+  pub faultless : IsTrue (is_faultless_before_last refreshes)
 
 -- a fact of some steps where a channel is the call's own, and elsewhere that there is no step
 abbrev pub OnOwnChannel : Bool → Type 0 → List CallStep → Type 0
@@ -89,15 +96,20 @@ TookAtMost verb looks = ⊤
 abbrev pub hints_taken : List ChannelRun → Tag → ℕ
 hints_taken runs tag = sum_by (λ run. looks_in_steps (steps_on tag run)) runs
 
+-- how many die calls failed in a call, on all channels
+abbrev pub count_of_faults : List ChannelRun → Tag → ℕ
+count_of_faults runs tag = sum_by (λ run. count_by (λ step. is_fault step.entry.kind) (steps_on tag run)) runs
+
 -- steps of a call on a channel are those of its verb
 abbrev pub AreCallSteps : List (Tag × List ℕ) → ℕ → TraceCall → ℕ × ChannelRun → List CallStep → Type 0
 AreCallSteps contents channels call item steps =
     AreStepsOf (ladder_in contents item.1) item.1.start.base channels item.0 call.verb steps
 
--- a call was made whole: on each channel its steps are those of its verb
+-- a call was made whole: on each channel its steps are those of its verb, and at most one die call failed in it
 pub record IsWhole (contents : List (Tag × List ℕ)) (runs : List ChannelRun) (call : TraceCall) : Type 0 where
   pub on_channels : All (λ item. AreCallSteps contents (length runs) call item (steps_on call.tag item.1)) (enumerate_from 0 runs)
   pub few : TookAtMost call.verb (hints_taken runs call.tag)
+  pub one_fault : count_of_faults runs call.tag ≤ 1
 
 -- some steps begin those of a call: with others after them they are those of its verb
 pub record IsBegunOn (contents : List (Tag × List ℕ)) (channels : ℕ) (call : TraceCall) (item : ℕ × ChannelRun) : Type 0 where
@@ -112,6 +124,7 @@ is_left tag run = list_all (λ open_look. not (is_same_tag tag open_look.0)) (op
 pub record IsBegun (contents : List (Tag × List ℕ)) (runs : List ChannelRun) (call : TraceCall) : Type 0 where
   pub on_channels : All (IsBegunOn contents (length runs) call) (enumerate_from 0 runs)
   pub few : TookAtMost call.verb (hints_taken runs call.tag)
+  pub one_fault : count_of_faults runs call.tag ≤ 1
   pub are_left : IsTrue (list_all (is_left call.tag) runs)
 
 -- a call has no entry

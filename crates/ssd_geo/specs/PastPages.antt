@@ -5,13 +5,13 @@
 -- sense gives the bits of the levels at its position.
 use Rattle.std.specs.Prelude.{ℕ, ◌-◌, ◌/◌, ◌%◌, ◌==◌, nat_lt, Bool, true, false, ◌&&◌, not, List, [], ◌∷◌, ◌++◌, map, Option, Some, None, option_map, ℤ}
 use Rattle.ssd_geo.specs.Bits.{bytes_sum}
-use Rattle.ssd_geo.specs.Blocks.{block_at}
+use Rattle.ssd_geo.specs.Blocks.{block_at, frontier_of}
 use Rattle.ssd_geo.specs.Coding.{Coding, word_bytes_in}
 use Rattle.ssd_geo.specs.Cells.{aged_level, fresh_levels, sensed}
 use Rattle.ssd_geo.specs.History.{look_of}
 use Rattle.ssd_geo.specs.Ladder.{LadderState, ladder, other_places, uncorrectable, word_recovered}
 use Rattle.ssd_geo.specs.Noise.{number_of_page}
-use Rattle.ssd_geo.specs.PastBlocks.{erases_of}
+use Rattle.ssd_geo.specs.PastBlocks.{blocks_of, erases_of, used_of}
 use Rattle.ssd_geo.specs.PastRows.{serial_of}
 use Rattle.ssd_geo.specs.Start.{Start, data_of, empty_levels, image_page}
 use Rattle.ssd_geo.specs.States.{is_frontier}
@@ -221,3 +221,19 @@ sense_of coding start contents past place level = sensed level (levels_of coding
 abbrev pub ladder_of : Coding → Start → List (Tag × List ℕ) → List Entry → ℕ → LadderState
 ladder_of coding start contents past at =
     ladder_over coding start.base.shape.dies (look_of past at) (senses_of coding start contents past at)
+
+-- the running sum of a channel: that of the data words of the frontier's open stripe, or zeros where no stripe is open
+abbrev pub sum_of_open : Coding → Start → List (Tag × List ℕ) → List Entry → ℕ → List ℕ
+sum_of_open coding start contents past sb =
+    let used = used_of start.base past sb in
+    elim (used % (start.base.shape.dies - 1) == 0) [
+      | true ↦ zero_word coding.word_bytes
+      | false ↦ sum_of coding start contents past sb (used / (start.base.shape.dies - 1))
+    ]
+
+abbrev pub running_sum : Coding → Start → List (Tag × List ℕ) → List Entry → List ℕ
+running_sum coding start contents past =
+    elim (frontier_of (blocks_of start.base past)) [
+      | Some sb ↦ sum_of_open coding start contents past sb
+      | None ↦ zero_word coding.word_bytes
+    ]

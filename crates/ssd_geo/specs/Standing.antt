@@ -1,8 +1,8 @@
 -- What may a channel begin with, and which histories may it then have? A start is as an image gives it: the superblocks,
 -- rows and sum fit each other, and the dies have the pages that are due. A history of a start is lawful and follows the
 -- policy's view where that is told; and for each entry that tells of a failed call of a die, that die counted a fault.
-use Rattle.std.specs.Prelude.{ℕ, ◌≡◌, ◌^◌, ◌*◌, ◌-◌, ◌%◌, ◌≤◌, ◌<◌, ◌==◌, nat_lt, Bool, true, false, ◌&&◌, not, IsTrue, List, length, All, count_by, slice_index_or, Option, Some, None, option_map}
-use Rattle.std.specs.List.{list_any}
+use Rattle.std.specs.Prelude.{ℤ, pos, neg_ℤ, int_le, int_lt, nat_le, ℕ, ◌≡◌, ◌^◌, ◌*◌, ◌-◌, ◌%◌, ◌≤◌, ◌<◌, ◌==◌, nat_lt, Bool, true, false, ◌&&◌, not, IsTrue, List, length, All, count_by, slice_index_or, Option, Some, None, option_map}
+use Rattle.std.specs.List.{list_all, list_any}
 use Rattle.ssd_geo.specs.BaseMatrix as BaseMatrix
 use Rattle.ssd_geo.specs.Blocks.{AreSound, block_at}
 use Rattle.ssd_geo.specs.CallSteps.{failed_die}
@@ -21,7 +21,9 @@ use Rattle.ssd_geo.specs.declared.base.ChannelBase.{ChannelBase}
 use Rattle.ssd_geo.specs.declared.entry.Entry.{Entry}
 use Rattle.ssd_geo.specs.declared.policy_view.PolicyView.{PolicyView}
 use Rattle.ssd_geo.specs.declared.row.Row.{Row}
+use Rattle.ssd_geo.specs.declared.shape.Shape.{Shape}
 use Rattle.ssd_geo.specs.declared.tag.Tag.{Tag}
+use Rattle.ssd_geo.specs.declared.weak.Weak.{Weak}
 
 -- how many entries tell of a failed call of a die
 abbrev pub is_fault_of : ℕ → Entry → Bool
@@ -57,6 +59,32 @@ abbrev pub has_open_stripe : ChannelBase → Bool
 has_open_stripe base =
     list_any (λ block. States.is_frontier block.state && not (block.used % (base.shape.dies - 1) == 0)) base.blocks
 
+-- whether a level is one that an image may have, and whether a number is from one to another
+abbrev pub is_level : ℤ → Bool
+is_level level = int_le (neg_ℤ (pos 16384)) level && int_le level (pos 16383)
+
+abbrev pub is_between : ℕ → ℕ → ℕ → Bool
+is_between low n high = nat_le low n && nat_le n high
+
+-- whether a weak block is one of the channels' blocks
+abbrev pub is_weak_block : Shape → Weak → Bool
+is_weak_block shape weak =
+    nat_lt weak.channel shape.channels && nat_lt weak.die shape.dies && nat_lt weak.sb shape.superblocks
+
+-- what a base has from the head of its image is in range
+pub record HasFields (base : ChannelBase) : Type 0 where
+  pub channel : base.channel < base.shape.channels
+  pub session : base.session < 2 ^ 24
+  pub matrix : BaseMatrix.IsAccepted (matrix_of base)
+  pub levels_count : IsTrue (is_between 1 (length base.read_levels) 16)
+  pub levels : IsTrue (list_all is_level base.read_levels)
+  pub iterations : IsTrue (is_between 1 base.iterations 64)
+  pub step : IsTrue (is_between 1 base.step 2047)
+  pub erased : IsTrue (int_le (neg_ℤ (pos 8192)) base.law.erased && int_le base.law.erased (pos 8190))
+  pub programmed : IsTrue (int_lt base.law.erased base.law.programmed && int_le base.law.programmed (pos 8191))
+  pub spread : base.law.spread ≤ 4095
+  pub weak : IsTrue (list_all (is_weak_block base.shape) base.weak)
+
 -- a channel may begin with this start
 pub record IsStart (start : Start) : Type 0 where
   pub blocks_count : length start.base.blocks ≡ start.base.shape.superblocks
@@ -69,7 +97,7 @@ pub record IsStart (start : Start) : Type 0 where
   pub sum_bytes : length start.base.sum ≡ word_bytes_in start.base.shape
   pub sum_of_none : IsTrue (not (has_open_stripe start.base)) → start.base.sum ≡ zero_word (word_bytes_in start.base.shape)
   pub sum_codeword : IsCodeword (matrix_of start.base) start.base.sum
-  pub matrix : BaseMatrix.IsAccepted (matrix_of start.base)
+  pub fields : HasFields start.base
   pub limit_low : 256 ≤ start.limit
   pub limit_high : start.limit ≤ 2 ^ 22
   pub dies_count : length start.cells ≡ start.base.shape.dies
