@@ -1,6 +1,8 @@
 pub mod AcceptedLayers
 pub mod BitsOfBytes
 pub mod DecodingBounds
+pub mod FieldLaws
+pub mod HeadLaws
 pub mod Histories
 pub mod LadderBound
 pub mod MapRows

@@ -316,6 +316,10 @@ are_bad_records sizes before [] = true
 are_bad_records sizes before (bad ∷ more) =
     is_bad_record sizes before bad && are_bad_records sizes (before ++ bad ∷ []) more
 
+-- whether a number fits 16 bits with a sign
+abbrev pub is_short : ℤ → Bool
+is_short n = is_signed_within (negsuc 32767) (pos 32767) n
+
 -- a head that has a spelling: each field is in its range
 pub record IsHead (head : Head) : Type 0 where
   pub channels : IsTrue (is_within 1 8 head.sizes.channels)
@@ -336,6 +340,7 @@ pub record IsHead (head : Head) : Type 0 where
   pub spread : IsTrue (is_within 0 4095 head.law.spread)
   pub step : IsTrue (is_within 1 2047 head.step)
   pub levels : IsTrue (list_all is_level head.read_levels)
+  pub entries : IsTrue (list_all is_short head.entries)
   pub entry_count : length head.entries ≡ head.sizes.mb * head.sizes.nb
   pub faultless : first_fault (matrix_of head) ≡ None
   pub weak_count : IsTrue (is_below (2 ^ 16) (length head.weak))

@@ -14,6 +14,7 @@ mod head;
 mod history_examples;
 mod history_laws;
 mod image_examples;
+mod image_laws;
 mod items;
 mod kind;
 mod look;
@@ -58,6 +59,7 @@ pub use image_examples::{
     example_contents_faults, example_image, example_image_faults, example_image_lists,
     example_page_in_image, example_saved_image, example_short_images,
 };
+pub use image_laws::heads_are_read;
 pub use items::Items;
 pub use kind::Kind;
 pub use look::Look;
