@@ -1,0 +1,4 @@
+mod Freshest
+mod Kept
+mod Next
+mod Places
