@@ -29,7 +29,7 @@ field_again fault value x place xs ys e =
     goes_on (bytes_field (length xs) (record { place = place; bytes = xs ++ ys })) (xs, rest) (λ field. found_or (value field.0) fault field.1) (bytes_again place xs ys)
     ∙ ap (λ found. found_or found fault rest) e
 
-passes : {A : Type 0} (test : A → Bool) (x y : A) → x ≡ y → test y ≡ true → passing test x ≡ Some y
+pub passes : {A : Type 0} (test : A → Bool) (x y : A) → x ≡ y → test y ≡ true → passing test x ≡ Some y
 passes test x y e h = ap (passing test) e ∙ rw h refl
 
 pub number_again_8 : (fault : Fault) (test : ℕ → Bool) (n place : ℕ) (ys : List ℕ) → n < 2 ^ 8 → test n ≡ true →

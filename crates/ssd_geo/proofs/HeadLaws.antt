@@ -15,13 +15,13 @@ use Rattle.ssd_geo.specs.Limits.{cells_of}
 use Rattle.ssd_geo.specs.declared.weak.Weak.{Weak}
 use Rattle.ssd_geo.proofs.FieldLaws.{goes_on, bytes_again, field_again, number_again_64, number_again_8, number_again_16, number_again_32, signed_numbers_again, signed_again}
 
-below_is : (bound n : ℕ) → is_below bound n ≡ true → n < bound
+pub below_is : (bound n : ℕ) → is_below bound n ≡ true → n < bound
 below_is bound n e = grind (arith, common_steps)
 
-within_is : (low high n : ℕ) → is_within low high n ≡ true → n ≤ high
+pub within_is : (low high n : ℕ) → is_within low high n ≡ true → n ≤ high
 within_is low high n e = grind (arith, common_steps)
 
-both_of : (a b : Bool) → (a && b) ≡ true → (a ≡ true) × (b ≡ true)
+pub both_of : (a b : Bool) → (a && b) ≡ true → (a ≡ true) × (b ≡ true)
 both_of true true e = (refl, refl)
 both_of true false e = (refl, e)
 both_of false true e = (e, refl)
@@ -42,13 +42,13 @@ record AreSmall (sizes : Sizes) : Type 0 where
   superblocks : sizes.superblocks ≤ 2 ^ 16
 
 -- what was read and the rest, for equal values and places
-abbrev read_at : {A : Type 0} → A → ℕ → List ℕ → Reading A
+abbrev pub read_at : {A : Type 0} → A → ℕ → List ℕ → Reading A
 read_at x place bytes = Ok (x, record { place = place; bytes = bytes })
 
-same_reading : {A : Type 0} (x y : A) (p q : ℕ) (bytes : List ℕ) → x ≡ y → p ≡ q → read_at x p bytes ≡ read_at y q bytes
+pub same_reading : {A : Type 0} (x y : A) (p q : ℕ) (bytes : List ℕ) → x ≡ y → p ≡ q → read_at x p bytes ≡ read_at y q bytes
 same_reading x y p q bytes e f = rw (e, f) refl
 
-levels_again : (levels before : List ℤ) (place : ℕ) (more : List ℕ) → list_all is_level levels ≡ true →
+pub levels_again : (levels before : List ℤ) (place : ℕ) (more : List ℕ) → list_all is_level levels ≡ true →
     level_fields (length levels) before (record { place = place; bytes = flat_map bytes_of_signed levels ++ more }) ≡ Ok (before ++ levels, record { place = place + length (flat_map bytes_of_signed levels); bytes = more })
 unfolding level_fields
 levels_again [] before place more e =

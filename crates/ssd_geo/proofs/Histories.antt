@@ -1,12 +1,7 @@
 -- Pasts and histories: the proofs of the laws of specs/HistoryLaws.antt but for the ladder's.
-use Rattle.std.proofs.Common.{List, [], ◌∷◌, ◌++◌, ℕ}
+use Rattle.std.proofs.Common.{[], ◌∷◌}
 use Rattle.std.proofs.lemmas.List.{length-reverse, reverse-append, reverse-reverse}
-use Rattle.ssd_geo.specs.declared.base.ChannelBase.{ChannelBase}
-use Rattle.ssd_geo.specs.declared.entry.Entry.{Entry}
-use Rattle.ssd_geo.specs.History.{history_of, past_of}
 use Rattle.ssd_geo.specs.HistoryLaws.{HistoriesReverse, LawfulBeforeLast}
-use Rattle.ssd_geo.specs.Ladder.{LadderState}
-use Rattle.ssd_geo.specs.Lawful.{IsLawfulBy}
 
 pub histories_reverse : HistoriesReverse
 histories_reverse history past entry = record {

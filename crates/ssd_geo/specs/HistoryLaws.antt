@@ -1,5 +1,5 @@
 -- What holds of pasts, whatever they hold? Each law is the contract of a function without a body.
-use Rattle.std.specs.Prelude.{ℕ, ◌≡◌, ◌+◌, ◌*◌, ◌<◌, Bool, List, [], ◌∷◌, ◌++◌, length, map, slice_set, Option, Some, None, ⊤}
+use Rattle.std.specs.Prelude.{ℕ, ◌≡◌, ◌+◌, ◌*◌, ◌<◌, Bool, List, [], ◌∷◌, ◌++◌, length, slice_set, Option, Some, None, ⊤}
 use Rattle.ssd_geo.specs.Coding.{Coding}
 use Rattle.ssd_geo.specs.History.{history_of, past_of}
 use Rattle.ssd_geo.specs.Ladder.{LadderState, asks, ladder, other_places, recovered, uncorrectable}

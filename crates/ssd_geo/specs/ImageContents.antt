@@ -2,14 +2,14 @@
 -- aren't? For each superblock there stand its state, its erases, its used slots, for each die the number of programmed
 -- pages and then their levels, and for a frontier with an open stripe the sum of the data words there; then the rows
 -- of the page map. The format is this project's own.
-use Rattle.std.specs.Prelude.{◌≡◌, ℕ, zero, suc, ◌-◌, ◌*◌, ◌/◌, ◌%◌, ◌^◌, ◌==◌, nat_lt, Bool, ◌&&◌, ◌||◌, not, if◌then◌else◌, List, [], ◌∷◌, ◌++◌, length, map, flat_map, find, replicate, slice_index_or, ℤ, Option, Some, None, Ok}
-use Rattle.std.specs.List.{enumerate_from, list_any, range_with_len}
+use Rattle.std.specs.Prelude.{◌≡◌, ⊤, IsTrue, true, ℕ, zero, suc, ◌+◌, ◌-◌, ◌*◌, ◌/◌, ◌%◌, ◌^◌, ◌==◌, nat_lt, Bool, ◌&&◌, ◌||◌, not, if◌then◌else◌, List, [], ◌∷◌, ◌++◌, length, map, flat_map, find, replicate, slice_index_or, ℤ, Option, Some, None, Ok}
+use Rattle.std.specs.List.{enumerate_from, list_any, list_all, range_with_len}
 use Rattle.std.specs.Option.{option_map_or}
 use Rattle.std.specs.Int.{w8, w16, w32, w64, to_le_bytes, from_le_bytes}
 use Rattle.ssd_geo.specs.Blocks.{block_at, has_due_used, is_frontier_block, is_victim_block}
 use Rattle.ssd_geo.specs.Codewords.{failed_checks}
-use Rattle.ssd_geo.specs.Fields.{Rest, Fault, Reading, ◌>>=◌, field_or, number_or, number_field, passing, bytes_of_signed, is_any, is_within, is_below, level_fields}
-use Rattle.ssd_geo.specs.ImageHead.{Sizes, Head, sizes_of, head_bytes, matrix_of, read_head}
+use Rattle.ssd_geo.specs.Fields.{Rest, Fault, Reading, ◌>>=◌, field_or, number_or, number_field, passing, bytes_of_signed, is_any, is_within, is_below, is_level, level_fields}
+use Rattle.ssd_geo.specs.ImageHead.{IsHead, Sizes, Head, sizes_of, head_bytes, matrix_of, read_head}
 use Rattle.ssd_geo.specs.InputFaults as faults
 use Rattle.ssd_geo.specs.PageMap.{names_slot}
 use Rattle.ssd_geo.specs.Start.{BlockCells, blank_cells}
@@ -295,3 +295,81 @@ saved_channel base cells = record {
   blocks = map (saved_block (sizes_of base.shape) base.sum cells) (enumerate_from 0 base.blocks);
   rows = base.rows;
 }
+
+-- whether dies may have so many programmed pages of a superblock, after those of the dies before
+abbrev pub are_programmed_counts : Sizes → SbState → ℕ → ℕ → List ℕ → List ℕ → Bool
+are_programmed_counts sizes state sb used before [] = true
+are_programmed_counts sizes state sb used before (n ∷ counts) =
+    is_programmed_count sizes state sb used (length before) n && is_within 0 sizes.pages n
+    && are_programmed_counts sizes state sb used (before ++ n ∷ []) counts
+
+-- whether these are levels of so many cells
+abbrev pub is_page : ℕ → List ℤ → Bool
+is_page cells page = length page == cells && list_all is_level page
+
+abbrev pub are_pages : ℕ → List (List ℤ) → Bool
+are_pages cells pages = list_all (is_page cells) pages
+
+-- whether these bytes may be the sum of a superblock's open stripe, if it has one
+abbrev pub is_sum : Head → BlockBase → List ℕ → Bool
+is_sum head block word =
+    if has_open_stripe head.sizes block
+    then length word == word_bytes_in head.sizes && failed_checks (matrix_of head) word == 0
+    else length word == 0
+
+-- whether a superblock may stand in an image, after those before
+abbrev pub is_saved_block : Head → ℕ → List SavedBlock → SavedBlock → Bool
+is_saved_block head channel before saved =
+    may_be head channel before saved.block.state
+    && is_within 0 (2 ^ 31) saved.block.erases
+    && is_below (2 ^ 32) saved.block.used
+    && has_due_used (slots_in head.sizes) saved.block.state saved.block.used
+    && length saved.pages == head.sizes.dies
+    && are_programmed_counts head.sizes saved.block.state (length before) saved.block.used [] (map length saved.pages)
+    && list_all (are_pages (cells_in head.sizes)) saved.pages
+    && is_sum head saved.block saved.sum
+
+abbrev pub are_saved_blocks : Head → ℕ → List SavedBlock → List SavedBlock → Bool
+are_saved_blocks head channel before [] = true
+are_saved_blocks head channel before (saved ∷ more) =
+    is_saved_block head channel before saved && are_saved_blocks head channel (before ++ saved ∷ []) more
+
+-- whether a row may stand in an image, after those before
+abbrev pub is_saved_row : Sizes → List BlockBase → List Row → Row → Bool
+is_saved_row sizes blocks before Empty = true
+is_saved_row sizes blocks before Lost = true
+is_saved_row sizes blocks before (Page slot serial) =
+    is_below sizes.superblocks slot.sb && is_below (2 ^ 32) slot.index && is_below (2 ^ 64) serial
+    && may_name blocks before slot
+
+abbrev pub are_saved_rows : Sizes → List BlockBase → List Row → List Row → Bool
+are_saved_rows sizes blocks before [] = true
+are_saved_rows sizes blocks before (of ∷ more) =
+    is_saved_row sizes blocks before of && are_saved_rows sizes blocks (before ++ of ∷ []) more
+
+-- what has a spelling as the contents of a channel
+pub record IsSaved (head : Head) (channel : ℕ) (saved : Saved) : Type 0 where
+  pub block_count : length saved.blocks ≡ head.sizes.superblocks
+  pub blocks : IsTrue (are_saved_blocks head channel [] saved.blocks)
+  pub row_count : length saved.rows ≡ head.sizes.rows
+  pub rows : IsTrue (are_saved_rows head.sizes (blocks_of saved.blocks) [] saved.rows)
+
+-- contents that were written are read again, whatever follows
+abbrev pub ContentsAreRead : Type 0
+ContentsAreRead =
+    (head : Head) (channel : ℕ) (saved : Saved) (place : ℕ) (more : List ℕ) → IsHead head → IsSaved head channel saved →
+    channel_fields head channel (record { place = place; bytes = channel_bytes saved ++ more })
+    ≡ Ok (saved, record { place = place + length (channel_bytes saved); bytes = more })
+
+-- these are contents of so many channels, after those before
+abbrev pub AreSaved : Head → List Saved → List Saved → Type 0
+AreSaved head before [] = ⊤
+AreSaved head before (saved ∷ more) = IsSaved head (length before) saved × AreSaved head (before ++ saved ∷ []) more
+
+-- a full image that was written is read again, whatever follows
+abbrev pub ImageIsRead : Type 0
+ImageIsRead =
+    (head : Head) (channels : List Saved) (more : List ℕ) → IsHead head → IsTrue head.full →
+    length channels ≡ head.sizes.channels → AreSaved head [] channels →
+    read_image (image_bytes head channels ++ more)
+    ≡ Ok ((head, channels), record { place = length (image_bytes head channels); bytes = more })

@@ -59,7 +59,7 @@ pub use image_examples::{
     example_contents_faults, example_image, example_image_faults, example_image_lists,
     example_page_in_image, example_saved_image, example_short_images,
 };
-pub use image_laws::heads_are_read;
+pub use image_laws::{contents_are_read, heads_are_read, images_are_read};
 pub use items::Items;
 pub use kind::Kind;
 pub use look::Look;
