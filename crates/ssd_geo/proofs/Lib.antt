@@ -10,6 +10,7 @@ pub mod MapRows
 pub mod NumberLaws
 pub mod Payloads
 pub mod SenseValues
+pub mod Sizes
 pub mod StripeLists
 pub mod Stripes
 pub mod WordSums

@@ -1,6 +1,6 @@
 -- Which sizes may a drive have? The limits are this project's own: they bound memory and keep every number of a
 -- page in its type.
-use Rattle.std.specs.Prelude.{ℕ, ◌≡◌, ◌+◌, ◌-◌, ◌*◌, ◌/◌, ◌%◌, ◌^◌, ◌≤◌, ◌==◌, nat_le, Bool, not, ◌&&◌, List, [], ◌∷◌, Option, position}
+use Rattle.std.specs.Prelude.{ℕ, ◌≡◌, ◌+◌, ◌-◌, ◌*◌, ◌/◌, ◌%◌, ◌^◌, ◌≤◌, ◌==◌, nat_le, Bool, not, ◌&&◌, ◌↔◌, List, [], ◌∷◌, Option, None, position}
 
 -- the cells of all channels
 abbrev pub cells_of : ℕ → ℕ → ℕ → ℕ → ℕ → ℕ → ℕ
@@ -63,3 +63,10 @@ ranges_kept channels dies superblocks pages z mb nb bytes rows =
 abbrev pub first_size_fault : ℕ → ℕ → ℕ → ℕ → ℕ → ℕ → ℕ → ℕ → ℕ → Option ℕ
 first_size_fault channels dies superblocks pages z mb nb bytes rows =
     position not (ranges_kept channels dies superblocks pages z mb nb bytes rows)
+
+-- A law, the contract of a function without a body: no fault is found exactly where the sizes are within the limits.
+abbrev pub FaultlessSizesAreWithin : Type 0
+FaultlessSizesAreWithin =
+    (channels dies superblocks pages z mb nb bytes rows : ℕ) →
+    (first_size_fault channels dies superblocks pages z mb nb bytes rows ≡ None)
+    ↔ IsWithinLimits channels dies superblocks pages z mb nb bytes rows

@@ -78,7 +78,8 @@ pub use shape::{Shape, ShapeFault};
 pub use slot::Slot;
 pub use stop::{ServeStop, StepStop};
 pub use stripe_laws::{
-    data_dies_are_the_others, due_pages_add_up, due_pages_rise, slots_and_data_places_match,
+    data_dies_are_the_others, due_pages_add_up, due_pages_rise, faultless_sizes_are_within,
+    slots_and_data_places_match,
 };
 pub use superblock::{SbInfo, SbState};
 pub use tag::Tag;

@@ -1,4 +1,5 @@
-//! Laws of slots, places and due pages. Each is the contract of a function that does nothing.
+//! Laws of sizes, slots, places and due pages. Each is the contract of a function that does nothing.
+ghost use Rattle.ssd_geo.specs.Limits.{FaultlessSizesAreWithin};
 ghost use Rattle.ssd_geo.specs.StripeLaws.{SlotsHavePlaces, PlacesHaveSlots, PlacesDiffer, DataDiesAreTheOthers, DuePagesAddUp, PagesRise, DuePagesStep, DuePagesEnds};
 
 /// Each slot has a data place of its channel, which gives the slot back; each data place has a slot, which gives
@@ -25,4 +26,9 @@ pub fn due_pages_rise()
 /// The due pages of all dies are as many as the used slots and the closed stripes together.
 pub fn due_pages_add_up()
     ensures { DuePagesAddUp }
+{}
+
+/// No size is out of its range exactly where all sizes are within the limits.
+pub fn faultless_sizes_are_within()
+    ensures { FaultlessSizesAreWithin }
 {}
