@@ -1,0 +1,72 @@
+ghost use Rattle.std.specs.Prelude.{◌≡◌, ◌+◌, ◌/◌, ◌≤◌, All, length};
+ghost use Rattle.ldpc_decode.specs.Answer.{IsAnswer};
+ghost use Rattle.ssd_geo.specs.BaseMatrix.{IsAccepted};
+ghost use Rattle.ssd_geo.specs.Bits.{bytes_of};
+ghost use Rattle.ssd_geo.specs.Codewords.{is_codeword, word_bits};
+ghost use Rattle.ssd_geo.specs.Decoding.{after_iterations, decided, decode, edge_count, layers_of};
+ghost use Rattle.ssd_geo.specs.RowRule.{IsWithin};
+
+use crate::Outcome;
+use crate::decision::decide;
+use crate::iteration::iterate;
+use qc_matrix::Code;
+
+/// Sets the numbers to what they are before the first iteration.
+fn start(code: &Code, values: &[i8], p: &mut [i16], r: &mut [i8])
+    requires variables { length p.old ≡ length values.now }
+    requires edges { length r.old ≡ edge_count (layers_of code.now) code.now.z }
+    ensures { (p.new, r.new) ≡ after_iterations code.now values.now 0 }
+{
+    for (i, value) in values.iter().enumerate() {
+        p[i] = i16::from(*value);
+    }
+    r.fill(0);
+}
+
+/// Writes the hard decision, and says whether it is a codeword.
+fn is_decided(code: &Code, p: &[i16], decision: &mut [u8]) -> bool
+    requires variables { length p.now ≡ word_bits code.now }
+    requires room { length decision.old ≡ (word_bits code.now + 7) / 8 }
+    ensures decision { decision.new ≡ bytes_of (decided p.now) }
+    ensures answer { result ≡ is_codeword code.now (decided p.now) }
+{
+    decide(p, decision);
+    code.failed_checks(decision) == 0
+}
+
+/// Iterates until the hard decision is a codeword, at most `limit` times; `done` counts the iterations.
+pub fn search(
+    code: &Code,
+    limit: u8,
+    values: &[i8],
+    p: &mut [i16],
+    r: &mut [i8],
+    decision: &mut [u8],
+    word: &mut [u8],
+    done: &mut u8,
+) -> Outcome
+    requires accepted { IsAccepted code.now }
+    requires values_len { length values.now ≡ word_bits code.now }
+    requires values_within { All (IsWithin 127) values.now }
+    requires variables { length p.old ≡ word_bits code.now }
+    requires edges { length r.old ≡ edge_count (layers_of code.now) code.now.z }
+    requires decision_len { length decision.old ≡ (word_bits code.now + 7) / 8 }
+    requires word_len { length word.old ≡ (word_bits code.now + 7) / 8 }
+    requires count { done.old ≡ 0 }
+    ensures answer { IsAnswer (decode code.now limit values.now) word.old result word.new }
+    ensures bound { done.new ≤ limit }
+{
+    start(code, values, p, r);
+    if is_decided(code, p, decision) {
+        word.copy_from_slice(decision);
+        return Outcome::Found { iterations: 0 };
+    }
+    for before in 0..limit {
+        iterate(code, p, r, done);
+        if is_decided(code, p, decision) {
+            word.copy_from_slice(decision);
+            return Outcome::Found { iterations: *done };
+        }
+    }
+    Outcome::NotFound
+}
