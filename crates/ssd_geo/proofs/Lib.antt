@@ -8,9 +8,12 @@ pub mod Histories
 pub mod LadderBound
 pub mod MapRows
 pub mod NumberLaws
+pub mod OpenLookLaws
 pub mod Payloads
+pub mod RewrittenRows
 pub mod SenseValues
 pub mod Sizes
 pub mod StripeLists
 pub mod Stripes
+pub mod UsedSlots
 pub mod WordSums
