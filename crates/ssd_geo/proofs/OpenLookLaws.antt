@@ -77,11 +77,13 @@ pins_step state base past tag (Kind.Look row (Row.Page slot serial) closed) rang
   where
     look : Look
     look = record { at = length past; row = row; slot = slot; serial = serial; closed = closed }
+
     in_rows : row < base.shape.rows
     in_rows = row_in_range row base.shape.rows (first_holds (nat_lt row base.shape.rows) (has_row base.shape (Row.Page slot serial)) range)
       where
         row_in_range : (a b : ℕ) → nat_lt a b ≡ true → a < b
         row_in_range a b e = grind (arith, nat_tests)
+
     stands : slot.index < used_of base past slot.sb
     stands = subst (NamesUsed base past) (sym c.is_found) (rows row in_rows)
 pins_step state base past tag (Kind.Leave left) range c rows h =

@@ -91,6 +91,7 @@ not_rewritten row at (entry ∷ past) h =
   where
     late : (a n : ℕ) → suc n ≤ a → nat_lt a n ≡ false
     late a n h = grind (arith, nat_tests)
+
     none : (b l r : Bool) → l ≡ false → r ≡ false → (b && l || r) ≡ false
     none true l r e f = rw (e, f) refl
     none false l r e f = f

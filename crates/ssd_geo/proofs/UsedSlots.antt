@@ -63,7 +63,7 @@ some_slot blocks (Some sb) slot e =
 pub next_is_used : (base : ChannelBase) (past : List Entry) (slot : Slot) → next_slot base past ≡ Some slot → slot.sb < base.shape.superblocks → slot.index ≡ used_of base past slot.sb
 next_is_used base past slot e h =
     let used : (Blocks.block_at (blocks_of base past) slot.sb).used ≡ used_of base past slot.sb =
-        ap {B = ℕ} (λ (block : BlockBase). block.used) (block_is base past slot.sb h) in
+    ap {B = ℕ} (λ (block : BlockBase). block.used) (block_is base past slot.sb h) in
     some_slot (blocks_of base past) (Blocks.next_superblock (blocks_of base past)) slot e ∙ used
 
 other_block : (sb erased : ℕ) → (sb == erased) ≡ false → (erased == sb) ≡ false

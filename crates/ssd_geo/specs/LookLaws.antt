@@ -48,26 +48,26 @@ NamesOther base past pin =
 abbrev pub LawfulRowsNameUsed : Type 0
 LawfulRowsNameUsed =
     (ladder : List Entry → ℕ → LadderState) (base : ChannelBase) (past : List Entry) →
-        RowsNameUsed base → IsLawfulBy ladder base past → (row : ℕ) → row < base.shape.rows → NamesUsed base past (row_of base past row)
+    RowsNameUsed base → IsLawfulBy ladder base past → (row : ℕ) → row < base.shape.rows → NamesUsed base past (row_of base past row)
 
 -- so does each open look, since its superblock isn't erased
 abbrev pub OpenLooksStand : Type 0
 OpenLooksStand =
     (ladder : List Entry → ℕ → LadderState) (base : ChannelBase) (past : List Entry) →
-        RowsNameUsed base → IsLawfulBy ladder base past → All (StandsInUsed base past) (open_looks past)
+    RowsNameUsed base → IsLawfulBy ladder base past → All (StandsInUsed base past) (open_looks past)
 
 -- the rows of open looks name other slots, once they were written or trimmed
 abbrev pub RewrittenRowsDiffer : Type 0
 RewrittenRowsDiffer =
     (ladder : List Entry → ℕ → LadderState) (base : ChannelBase) (past : List Entry) →
-        RowsNameUsed base → IsLawfulBy ladder base past → All (NamesOther base past) (open_looks past)
+    RowsNameUsed base → IsLawfulBy ladder base past → All (NamesOther base past) (open_looks past)
 
 -- a lawful copy is of a row that wasn't written or trimmed since its look
 abbrev pub CopiesAreFresh : Type 0
 CopiesAreFresh =
     (ladder : List Entry → ℕ → LadderState) (base : ChannelBase) (past : List Entry) (tag : Tag) (at : ℕ) (slot : Slot) →
-        RowsNameUsed base → IsLawfulBy ladder base (record { tag = tag; kind = Kind.Move at slot } ∷ past)
-        → IsSomeAnd (open_look past tag at) (λ look. is_rewritten look.row look.at past ≡ false)
+    RowsNameUsed base → IsLawfulBy ladder base (record { tag = tag; kind = Kind.Move at slot } ∷ past)
+    → IsSomeAnd (open_look past tag at) (λ look. is_rewritten look.row look.at past ≡ false)
 
 -- a lawful erase is of a superblock in which no open look stands, whether it fails or not
 abbrev pub is_erase_of : ℕ → Kind → Bool
@@ -78,4 +78,4 @@ is_erase_of sb _ = false
 abbrev pub ErasesSpareLooks : Type 0
 ErasesSpareLooks =
     (ladder : List Entry → ℕ → LadderState) (base : ChannelBase) (entry : Entry) (past : List Entry) →
-        IsLawfulBy ladder base (entry ∷ past) → All (λ pin. is_erase_of pin.1.slot.sb entry.kind ≡ false) (open_looks past)
+    IsLawfulBy ladder base (entry ∷ past) → All (λ pin. is_erase_of pin.1.slot.sb entry.kind ≡ false) (open_looks past)
