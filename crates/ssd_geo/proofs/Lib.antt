@@ -2,6 +2,7 @@ pub mod AcceptedLayers
 pub mod BitsOfBytes
 pub mod ContentsLaws
 pub mod DecodingBounds
+pub mod FoundWords
 pub mod FieldLaws
 pub mod HeadLaws
 pub mod Histories

@@ -1,8 +1,10 @@
-ghost use Rattle.std.specs.Prelude.{ℕ, ◌<◌, ℤ, List, All};
+ghost use Rattle.std.specs.Prelude.{◌≡◌, ℕ, ◌<◌, ◌≤◌, ℤ, List, All, length};
 ghost use Rattle.ssd_geo.specs.BaseMatrix.{BaseMatrix, IsAccepted, layer_of};
+ghost use Rattle.ssd_geo.specs.Bits.{IsOfBits};
+ghost use Rattle.ssd_geo.specs.Codewords.{IsCodeword, word_bits};
 ghost use Rattle.ssd_geo.specs.LayerNumbers.{IsLayer};
 ghost use Rattle.ssd_geo.specs.RowRule.{IsWithin, row_rule};
-ghost use Rattle.ssd_geo.specs.Decoding.{layer_worked};
+ghost use Rattle.ssd_geo.specs.Decoding.{decode, layer_worked};
 
 /// A check row that is given numbers from -127 to 127 tells each edge a number from -95 to 95.
 pub fn row_rule_is_bounded()
@@ -22,4 +24,15 @@ pub fn accepted_rows_are_layers()
     ensures layers { (m : BaseMatrix) → IsAccepted m → (i : ℕ) → i < m.mb → IsLayer m.z (layer_of m i) }
     ensures columns { (m : BaseMatrix) → IsAccepted m → (i : ℕ) → i < m.mb
         → All (λ block. block.0 < m.nb) (layer_of m i) }
+{}
+
+/// What the decoder finds is a codeword, and it takes no more iterations than the limit.
+pub fn found_words_are_codewords()
+    ensures codeword { (m : BaseMatrix) (limit : ℕ) (values : List ℤ) (n : ℕ) (word : List ℕ)
+        → length values ≡ word_bits m → decode m limit values ≡ Some (n, word) → IsCodeword m word }
+    ensures of_bits { (m : BaseMatrix) (limit : ℕ) (values : List ℤ) (n : ℕ) (word : List ℕ)
+        → length values ≡ word_bits m → decode m limit values ≡ Some (n, word)
+        → IsOfBits (word_bits m) word }
+    ensures bounded { (m : BaseMatrix) (limit : ℕ) (values : List ℤ) (n : ℕ) (word : List ℕ)
+        → decode m limit values ≡ Some (n, word) → n ≤ limit }
 {}

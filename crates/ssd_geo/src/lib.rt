@@ -47,7 +47,9 @@ pub use cell_examples::{noise_from_zero, senses_of_a_byte};
 pub use cell_law::CellLaw;
 pub use code_examples::{example_bits, example_fault, example_word};
 pub use contents::Contents;
-pub use decoding_laws::{accepted_rows_are_layers, layer_keeps_bounds, row_rule_is_bounded};
+pub use decoding_laws::{
+    accepted_rows_are_layers, found_words_are_codewords, layer_keeps_bounds, row_rule_is_bounded,
+};
 pub use entry::Entry;
 pub use generated_examples::{example_generated_head, example_generated_work};
 pub use head::ImageHead;
