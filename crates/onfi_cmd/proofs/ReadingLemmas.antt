@@ -1,13 +1,13 @@
 -- Reading cycles from a place on, one at a time.
-use Rattle.std.proofs.Common.{◌≡◌, ℕ, ◌+◌, ◌<◌, ◌≤◌, eqb, Bool, true, false, cond, Option, Some, None, List, [], ◌∷◌, length, get_or, drop, refl, sym, ◌∙◌, ap, arith, add-one, drop-cons}
+use Rattle.std.proofs.Common.{◌≡◌, ℕ, ◌+◌, ◌<◌, ◌≤◌, true, false, Option, Some, List, [], ◌∷◌, length, get_or, drop, add-one, drop-cons}
 use Rattle.std.proofs.Math.ListN.{drop_of_length-le}
 use Rattle.onfi_cmd.specs.declared.cycle.Cycle.{Cycle}
-use Rattle.onfi_cmd.specs.declared.cycle.Cycle.TheVariants.{Command, Address, Byte}
+use Rattle.onfi_cmd.specs.declared.cycle.Cycle.TheVariants.{Byte}
 use Rattle.onfi_cmd.specs.declared.cycle_fault.CycleFault.{CycleFault}
 use Rattle.onfi_cmd.specs.declared.cycle_fault.CycleFault.TheVariants.{Short, Wrong, Extra}
 use Rattle.onfi_cmd.specs.declared.reading.Expected.{Expected}
 use Rattle.onfi_cmd.specs.declared.reading.Expected.TheVariants.{AnyAddress}
-use Rattle.onfi_cmd.specs.Reading.{is_as_expected, end_fault, data_fault, first_fault}
+use Rattle.onfi_cmd.specs.Reading.{is_as_expected, end_fault, first_fault}
 
 -- what is left from a place on begins with the cycle at that place
 pub drop-next : {X : Type 0} (xs : List X) (i : ℕ) (d : X) → i < length xs → drop i xs ≡ get_or xs i d ∷ drop (i + 1) xs

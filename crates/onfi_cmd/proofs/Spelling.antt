@@ -1,5 +1,5 @@
 -- Operations and their cycles match one to one.
-use Rattle.std.proofs.Common.{◌≡◌, ℕ, suc, ◌+◌, ◌-◌, ◌*◌, ◌/◌, ◌%◌, ◌^◌, ◌<◌, ◌≤◌, eqb, leb, Bool, true, false, cond, Option, Some, None, Result, Ok, Err, List, [], ◌∷◌, ◌++◌, map, length, get_or, take, drop, refl, sym, ◌∙◌, ap, subst, inl, inr, arith}
+use Rattle.std.proofs.Common.{◌≡◌, ℕ, suc, ◌+◌, ◌*◌, ◌/◌, ◌%◌, ◌^◌, ◌<◌, ◌≤◌, eqb, leb, Bool, true, false, cond, Option, Some, None, Result, Ok, List, [], ◌∷◌, ◌++◌, map, length, take, refl, sym, ◌∙◌, ap, subst, inl, inr, arith}
 use Rattle.std.proofs.lemmas.Bool.{le-leb, leb-true, eqb-true, cond-true, cond-false}
 use Rattle.std.proofs.lemmas.Bool.Decides.{eqb_tells}
 use Rattle.onfi_cmd.specs.declared.cycle.Cycle.{Cycle}
@@ -9,7 +9,7 @@ use Rattle.onfi_cmd.specs.declared.op.Op.TheVariants.{Read, Program, Erase, Stat
 use Rattle.onfi_cmd.specs.declared.cycle_fault.CycleFault.{CycleFault}
 use Rattle.onfi_cmd.specs.declared.reading.Expected.{Expected}
 use Rattle.onfi_cmd.specs.declared.reading.Expected.TheVariants.{AnyAddress, Feature, AnyByte, Closing}
-use Rattle.onfi_cmd.specs.Cycles.{cycles_of, HasItsFeature, HasItsBytes, HasRowInRange, Spells, value_of, value_at, bytes_of_op, IsOfBytes, column_cycles, row_cycles}
+use Rattle.onfi_cmd.specs.Cycles.{cycles_of, HasItsFeature, HasItsBytes, Spells, value_of, value_at, bytes_of_op, IsOfBytes, column_cycles, row_cycles}
 use Rattle.onfi_cmd.specs.Reading.{operation_of, data_fault, end_fault, first_fault, unless_fault, after_read, after_program, after_erase, after_set_features, after_get_features, column_at, row_at, params_at}
 
 -- a row is put together again from its bytes, and a column too

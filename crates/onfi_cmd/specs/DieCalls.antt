@@ -1,6 +1,6 @@
 -- When may a call of a die be made, and what may it leave? A die tells its blocks or it doesn't. One that tells obeys
 -- the rules on cells and weak blocks; of one that doesn't, only its faults, its counts and its plan are known.
-use Rattle.std.specs.Prelude.{◌≡◌, ℕ, ◌-◌, ◌*◌, ◌^◌, ◌<◌, ◌≤◌, Option, Some, IfSome, OnSome, IsSomeAnd, is_some, Result, IfOk, IsOkAnd, OnOk, OnErr, IsErrOf, List, length, ℤ, pos}
+use Rattle.std.specs.Prelude.{◌≡◌, ℕ, ◌-◌, ◌*◌, ◌^◌, ◌<◌, Option, Some, IfSome, OnSome, IsSomeAnd, is_some, Result, IfOk, IsOkAnd, OnOk, OnErr, IsErrOf, List, length, ℤ, pos}
 use Rattle.std.specs.Int.{w16}
 use Rattle.std.specs.Int.RustNames.{FitsSigned}
 use Rattle.ssd_geo.specs.Cells.{IsCellLaw}

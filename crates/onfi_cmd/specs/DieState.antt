@@ -2,9 +2,9 @@
 -- in rising order (Micheloni, Inside NAND Flash Memories), so its programmed pages are its first ones. That a program
 -- or an erase that answers FAIL changes nothing, and that a page is programmed once between erases, are this
 -- project's own.
-use Rattle.std.specs.Prelude.{◌≡◌, ℕ, ◌+◌, ◌-◌, ◌*◌, ◌<◌, ◌==◌, nat_lt, nat_le, ◌&&◌, Bool, if◌then◌else◌, Option, Some, None, IfSome, is_some, List, [], ◌∷◌, ◌++◌, map, length, replicate, slice_index_or, slice_set, ℤ, pos}
+use Rattle.std.specs.Prelude.{ℕ, ◌+◌, ◌*◌, ◌==◌, nat_le, ◌&&◌, Bool, if◌then◌else◌, Option, List, [], ◌∷◌, ◌++◌, map, length, replicate, slice_index_or, slice_set, ℤ, pos}
 use Rattle.std.specs.List.{list_any}
-use Rattle.ssd_geo.specs.Cells.{aged_level, fresh_levels, sensed, IsCellLaw}
+use Rattle.ssd_geo.specs.Cells.{aged_level, fresh_levels, sensed}
 use Rattle.ssd_geo.specs.Noise.{number_of_page}
 use Rattle.ssd_geo.specs.declared.weak.Weak.{Weak}
 use Rattle.onfi_cmd.specs.Addresses.{block_of_row, page_of_row, params_of_level, level_of_params}

@@ -15,6 +15,17 @@ pub fn row_address(shape: &Shape, sb: u16, page: u16) -> u32
     u32::from(page) + u32::from(sb) * stride(shape.pages)
 }
 
+/// The block and the page of a row address.
+pub fn row_place(shape: &Shape, row: u32) -> (u16, u16)
+    requires block { block_of_row shape.now.pages row < shape.now.superblocks }
+    requires page { page_of_row shape.now.pages row < shape.now.pages }
+    ensures block { result.0 ≡ block_of_row shape.now.pages row }
+    ensures page { result.1 ≡ page_of_row shape.now.pages row }
+{
+    let stride = stride(shape.pages);
+    ((row / stride) as u16, (row % stride) as u16)
+}
+
 /// The four parameters that set the read level: its two bytes, low byte first, and two zeros.
 pub fn level_params(level: i16) -> [u8; 4]
     ensures params { result ≡ params_of_level level }

@@ -14,7 +14,7 @@ mod reading;
 mod stop;
 mod writing;
 
-pub use address::{level_params, row_address};
+pub use address::{level_params, row_address, row_place};
 pub use cycle::Cycle;
 pub use cycle_fault::CycleFault;
 pub use die::Die;

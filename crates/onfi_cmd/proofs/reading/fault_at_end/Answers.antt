@@ -1,5 +1,5 @@
 use Rattle.onfi_cmd.proofs.ReadingLemmas.{end_fault-extra}
-use Rattle.std.proofs.Common.{sym, ap}
+use Rattle.std.proofs.Common.{sym}
 use Rattle.onfi_cmd.proofs.reading.fault_at_end.Goals as goal
 
 pub returns-then-place-cycles : goal.returns-then-place-cycles

@@ -1,5 +1,5 @@
-use Rattle.std.proofs.Common.{◌+◌, ◌∙◌, arith}
-use Rattle.onfi_cmd.proofs.ReadingLemmas.{first_fault-passed, first_fault-wrong, first_fault-short}
+use Rattle.std.proofs.Common.{◌+◌, ◌∙◌}
+use Rattle.onfi_cmd.proofs.ReadingLemmas.{first_fault-short}
 use Rattle.onfi_cmd.proofs.reading.fault_of_kinds.Goals as goal
 
 pub returns-then-i-cycles-clause-failed : goal.returns-then-i-cycles-clause-failed

@@ -1,5 +1,4 @@
-use Rattle.std.proofs.Common.{◌≡◌, ◌+◌, ◌++◌, map, take, vec_len, vec_capacity}
-use Rattle.onfi_cmd.specs.declared.cycle.Cycle.TheVariants.{Byte}
+use Rattle.std.proofs.Common.{◌≡◌, ◌+◌, ◌++◌, take, vec_len, vec_capacity}
 use Rattle.onfi_cmd.proofs.writing.push_all.Given as goal
 
 abbrev pub invariant-loop-cycle : goal.invariant-loop-cycle

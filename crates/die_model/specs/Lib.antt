@@ -1,0 +1,3 @@
+pub mod SimState
+pub mod Simulated
+pub mod Stored
