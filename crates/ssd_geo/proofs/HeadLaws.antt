@@ -27,7 +27,7 @@ both_of true false e = (refl, e)
 both_of false true e = (e, refl)
 both_of false false e = (e, e)
 
-short_fits : (n : ℤ) → is_short n ≡ true → FitsSigned w16 n
+pub short_fits : (n : ℤ) → is_short n ≡ true → FitsSigned w16 n
 short_fits (pos n) e = record { sfits = grind (arith, common_steps, ints) }
 short_fits (negsuc n) e = record { sfits = grind (arith, common_steps, ints) }
 

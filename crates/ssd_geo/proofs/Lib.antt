@@ -2,11 +2,12 @@ pub mod AcceptedLayers
 pub mod BitsOfBytes
 pub mod ContentsLaws
 pub mod DecodingBounds
-pub mod FoundWords
 pub mod FieldLaws
+pub mod FoundWords
 pub mod HeadLaws
 pub mod Histories
 pub mod LadderBound
+pub mod LineLaws
 pub mod MapRows
 pub mod NumberLaws
 pub mod OpenLookLaws
@@ -16,5 +17,6 @@ pub mod SenseValues
 pub mod Sizes
 pub mod StripeLists
 pub mod Stripes
+pub mod TextLaws
 pub mod UsedSlots
 pub mod WordSums

@@ -1,6 +1,6 @@
 -- What does a run print? The histories of all channels, the replies of all actors, and a summary of counts. The texts
 -- are this project's own.
-use Rattle.std.specs.Prelude.{◌≡◌, ℕ, ◌+◌, ◌-◌, ◌==◌, Bool, true, false, ◌&&◌, not, if◌then◌else◌, List, [], ◌∷◌, ◌++◌, map, length, zip, count_by, sum_by, codes, decimal}
+use Rattle.std.specs.Prelude.{ℕ, ◌+◌, ◌-◌, ◌==◌, Bool, true, false, ◌&&◌, not, if◌then◌else◌, List, [], ◌∷◌, ◌++◌, map, length, zip, count_by, sum_by, codes, decimal}
 use Rattle.std.specs.List.{range_with_len}
 use Rattle.ssd_geo.specs.Numbers.{Text}
 use Rattle.ssd_geo.specs.EntryText.{line_of, histories_text}
@@ -197,10 +197,9 @@ summary_of levels histories kinds answers dropped =
 abbrev pub count_line : Text → List ℕ → Text
 count_line word counts = line_of (word ∷ map decimal counts)
 
--- the summary
-abbrev pub summary_text : Summary → Text
-summary_text s =
-    line_of (codes "summary" ∷ []) ++
+-- the lines of the summary after its first
+abbrev pub counts_text : Summary → Text
+counts_text s =
     count_line (codes "write") (s.write_ok ∷ s.write_full ∷ s.write_readonly ∷ s.write_diefault ∷ []) ++
     count_line (codes "read") (s.read_data ∷ s.read_empty ∷ s.read_uncorrectable ∷ s.read_diefault ∷ []) ++
     count_line (codes "trim") (s.trims ∷ []) ++
@@ -211,16 +210,12 @@ summary_text s =
     count_line (codes "hint") (s.pushed ∷ s.dropped ∷ s.taken ∷ []) ++
     line_of (codes "end" ∷ [])
 
+-- the summary
+abbrev pub summary_text : Summary → Text
+summary_text s = line_of (codes "summary" ∷ []) ++ counts_text s
+
 -- all that a run with so many read levels prints: whole, or the part from the summary on
 abbrev pub run_text : Bool → ℕ → List (List Entry) → List (List CallKind) → List (List Reply) → ℕ → Text
 run_text whole levels histories kinds answers dropped =
     (if whole then histories_text histories ++ actors_text answers else []) ++
     summary_text (summary_of levels histories kinds answers dropped)
-
--- two different lists of histories never have the same whole text, whatever the replies and counts
-abbrev pub WholeTextTellsHistories : Type 0
-WholeTextTellsHistories =
-    (levels levels' : ℕ) (histories histories' : List (List Entry)) (kinds kinds' : List (List CallKind))
-    (answers answers' : List (List Reply)) (dropped dropped' : ℕ) →
-    run_text true levels histories kinds answers dropped ≡ run_text true levels' histories' kinds' answers' dropped' →
-    histories ≡ histories'

@@ -35,6 +35,7 @@ mod stripe_laws;
 mod superblock;
 mod tag;
 mod text_examples;
+mod text_laws;
 mod trace;
 mod trace_examples;
 mod unlawful_examples;
@@ -91,6 +92,7 @@ pub use text_examples::{
     example_histories_read, example_kinds, example_kinds_read, example_numbers, example_replies,
     example_runs,
 };
+pub use text_laws::texts_tell_histories;
 pub use trace::{Content, Trace, TraceCall, Verb};
 pub use trace_examples::{
     example_contents, example_trace, example_trace_faults, example_trace_limits,
