@@ -1,0 +1,6 @@
+use Rattle.std.proofs.Common.{◌≡◌, ℕ, ◌<◌, ◌&&◌, nat_le, false}
+use Rattle.ssd_geo.specs.Policies.{is_candidate_at}
+use Rattle.victim.proofs.candidates.first_from.Given as goal
+
+abbrev pub invariant-loop-sb : goal.invariant-loop-sb
+invariant-loop-sb l = (k : ℕ) → k < l.sb → (is_candidate_at l.table k && nat_le l.from k) ≡ false
