@@ -4,6 +4,8 @@ pub mod ContentsLaws
 pub mod DecodingBounds
 pub mod FieldLaws
 pub mod FoundWords
+pub mod FreshPages
+pub mod FreshSlots
 pub mod HeadLaws
 pub mod Histories
 pub mod LadderBound
@@ -12,6 +14,7 @@ pub mod MapRows
 pub mod NumberLaws
 pub mod OpenLookLaws
 pub mod Payloads
+pub mod PinnedWords
 pub mod RewrittenRows
 pub mod SenseValues
 pub mod Sizes

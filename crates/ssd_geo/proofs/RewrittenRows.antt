@@ -97,7 +97,7 @@ not_rewritten row at (entry ∷ past) h =
     none false l r e f = f
 
 -- two facts of each item give another
-all_by_two : {X : Type 0} (P Q R : X → Type 0) → ((x : X) → P x → Q x → R x) → (xs : List X) → All P xs → All Q xs → All R xs
+pub all_by_two : {X : Type 0} (P Q R : X → Type 0) → ((x : X) → P x → Q x → R x) → (xs : List X) → All P xs → All Q xs → All R xs
 all_by_two P Q R f [] h g = All-nil R
 all_by_two P Q R f (x ∷ xs) h g =
     All-cons R x xs (f x (All-head P x xs h) (All-head Q x xs g)) (all_by_two P Q R f xs (All-tail P x xs h) (All-tail Q x xs g))

@@ -1,5 +1,6 @@
 //! Laws of open looks in lawful histories. Each is the contract of a function that does nothing.
 ghost use Rattle.ssd_geo.specs.LookLaws.{CopiesAreFresh, ErasesSpareLooks, LawfulRowsNameUsed, OpenLooksStand, RewrittenRowsDiffer};
+ghost use Rattle.ssd_geo.specs.PinnedPages.{PinnedPagesStay};
 
 /// Each row that names a slot names one that is used, from a start at which that holds.
 pub fn rows_name_used()
@@ -22,4 +23,10 @@ pub fn erases_spare_looks()
 pub fn copies_are_fresh()
     ensures rows { RewrittenRowsDiffer }
     ensures copies { CopiesAreFresh }
+{}
+
+/// From a look to its leave, every page of its superblock that was programmed at the look keeps its word, and no closed
+/// stripe of it opens, since no fewer slots are used.
+pub fn pinned_pages_stay()
+    ensures { PinnedPagesStay }
 {}
