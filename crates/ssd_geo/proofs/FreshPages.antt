@@ -54,11 +54,12 @@ kept_no_program leaves kept = tt
 -- a page that isn't programmed stays so
 pub none_stays : (base : ChannelBase) (change : PageChange) (a : Option StoredPage) (b : Slot → Option StoredPage) (before : Option StoredPage) → IsNoProgram change → before ≡ None
     → ◌≡◌ {A = Option StoredPage} (elim change [
-      programs ↦ a
-    | programs_parity slot ↦ b slot
-    | empties ↦ None
-    | ages amount ↦ option_map (aged_page base amount) before
-    | leaves ↦ before ]) None
+      | programs ↦ a
+      | programs_parity slot ↦ b slot
+      | empties ↦ None
+      | ages amount ↦ option_map (aged_page base amount) before
+      | leaves ↦ before
+    ]) None
 none_stays base programs a b before none e = absurd none
 none_stays base (programs_parity slot) a b before none e = absurd none
 none_stays base empties a b before none e = refl
@@ -79,11 +80,14 @@ program_elsewhere dies slot place other far = by_slot (is_place place (place_of_
     by_parity true true none = none refl refl
     by_parity true false none = tt
     by_parity false here none = tt
+
     by_slot : (b : Bool) → (b ≡ true → ⊥) → IsKept (elim b [
-          true ↦ programs
-        | false ↦ elim (is_last_of_stripe dies slot.index && is_place place (place_of_parity dies slot.sb (stripe_of_index dies slot.index))) [
-            true ↦ programs_parity slot
-          | false ↦ leaves ] ])
+      | true ↦ programs
+      | false ↦ elim (is_last_of_stripe dies slot.index && is_place place (place_of_parity dies slot.sb (stripe_of_index dies slot.index))) [
+        | true ↦ programs_parity slot
+        | false ↦ leaves
+      ]
+    ])
     by_slot true none = none refl
     by_slot false none =
         by_parity (is_last_of_stripe dies slot.index) (is_place place (place_of_parity dies slot.sb (stripe_of_index dies slot.index)))
@@ -114,7 +118,7 @@ slot_elsewhere dies sb index used slot two at le =
     let blocks : sb ≡ slot.sb = ap {B = ℕ} (λ (p : Place). p.sb) e in
     let stripes : stripe_of_index dies index ≡ stripe_of_index dies slot.index = ap {B = ℕ} (λ (p : Place). p.page) e in
     let parities : place_of_parity dies slot.sb (stripe_of_index dies slot.index) ≡ place_of_parity dies sb (stripe_of_index dies index) =
-        λ i. place_of_parity dies (sym blocks i) (sym stripes i) in
+    λ i. place_of_parity dies (sym blocks i) (sym stripes i) in
     not_parity dies sb index two (e ∙ parities)))
   where
     used_up : (a b u n : ℕ) → a ≡ b → n ≡ u → (if b == a then u + 1 else u) ≤ n → ⊥
@@ -129,7 +133,7 @@ parity_elsewhere dies sb stripe used slot two at lt =
     (λ e. let blocks : sb ≡ slot.sb = ap {B = ℕ} (λ (p : Place). p.sb) e in
     let stripes : stripe ≡ stripe_of_index dies slot.index = ap {B = ℕ} (λ (p : Place). p.page) e in
     let parities : place_of_parity dies sb stripe ≡ place_of_parity dies slot.sb (stripe_of_index dies slot.index) =
-        λ i. place_of_parity dies (blocks i) (stripes i) in
+    λ i. place_of_parity dies (blocks i) (stripes i) in
     not_parity dies slot.sb slot.index two (sym e ∙ parities))
     (λ last e.
     let blocks : sb ≡ slot.sb = ap {B = ℕ} (λ (p : Place). p.sb) e in
@@ -138,8 +142,10 @@ parity_elsewhere dies sb stripe used slot two at lt =
   where
     closes : (n w : ℕ) → (n % w + 1 == w) ≡ true → n + 1 ≡ n / w * w + w
     closes n w last = let full : n % w + 1 ≡ w = grind (arith, nat_tests) in omega (arith, div-add-mod' n w, full)
+
     more : (b a u : ℕ) → a ≡ b → ◌≡◌ {A = ℕ} (if b == a then u + 1 else u) (u + 1)
     more b a u e = grind (arith, nat_tests)
+
     completed : (a b u n s w : ℕ) → a ≡ b → n ≡ u → s ≡ n / w → (n % w + 1 == w) ≡ true → (if b == a then u + 1 else u) < (s + 1) * w → ⊥
     completed a b u n s w e f g last lt =
         let times : s * w ≡ n / w * w = ap {B = ℕ} (λ (k : ℕ). k * w) g in omega (arith, closes n w last, more b a u e, times)
@@ -148,7 +154,7 @@ parity_elsewhere dies sb stripe used slot two at lt =
 pub record IsFreshAbove (coding : Coding) (start : Start) (contents : List (Tag × List ℕ)) (past : List Entry) (sb : ℕ) : Type 0 where
   pub slots : (index : ℕ) → used_of start.base past sb ≤ index → page_of coding start contents past (place_of_slot start.base.shape.dies (slot_at sb index)) ≡ None
   pub parities :
-    (stripe : ℕ) → used_of start.base past sb < (stripe + 1) * (start.base.shape.dies - 1)
+      (stripe : ℕ) → used_of start.base past sb < (stripe + 1) * (start.base.shape.dies - 1)
       → page_of coding start contents past (place_of_parity start.base.shape.dies sb stripe) ≡ None
 
 -- a channel has at least two dies
@@ -181,16 +187,22 @@ first_fresh coding start contents due sb lt good =
     let sound : States.is_bad (block_before start.base sb).state ≡ false = image_good (States.is_bad (block_before start.base sb).state) good in
     record {
       slots = λ index le.
-        let place : Place = place_of_slot start.base.shape.dies (slot_at sb index) in
-        ap {B = Option StoredPage} (option_map stored_in_image)
-        (slice_get_past (cells_at start place.die sb).pages place.page
-        (omega (arith, due place.die sb (slot_die start.base.shape.dies sb index (two_dies start)) lt sound,
-        due_below_slot start.base.shape.dies sb (block_before start.base sb).used index (two_dies start) le)));
+          let place : Place = place_of_slot start.base.shape.dies (slot_at sb index) in
+          ap {B = Option StoredPage} (option_map stored_in_image)
+          (slice_get_past (cells_at start place.die sb).pages place.page
+          (omega (
+            arith,
+            due place.die sb (slot_die start.base.shape.dies sb index (two_dies start)) lt sound,
+            due_below_slot start.base.shape.dies sb (block_before start.base sb).used index (two_dies start) le,
+          )));
       parities = λ stripe lt_stripe.
-        ap {B = Option StoredPage} (option_map stored_in_image)
-        (slice_get_past (cells_at start (parity_die start.base.shape.dies sb stripe) sb).pages stripe
-        (omega (arith, due (parity_die start.base.shape.dies sb stripe) sb (parity_die-lt start.base.shape.dies sb stripe (two_dies start)) lt sound,
-        due_below_parity start.base.shape.dies sb (block_before start.base sb).used stripe (two_dies start) lt_stripe)));
+          ap {B = Option StoredPage} (option_map stored_in_image)
+          (slice_get_past (cells_at start (parity_die start.base.shape.dies sb stripe) sb).pages stripe
+          (omega (
+            arith,
+            due (parity_die start.base.shape.dies sb stripe) sb (parity_die-lt start.base.shape.dies sb stripe (two_dies start)) lt sound,
+            due_below_parity start.base.shape.dies sb (block_before start.base sb).used stripe (two_dies start) lt_stripe,
+          )));
     }
   where
     image_good : (b : Bool) → (b || false) ≡ false → b ≡ false
@@ -203,15 +215,15 @@ kept_fresh : (coding : Coding) (start : Start) (contents : List (Tag × List ℕ
     → used_of start.base past sb ≤ used_of start.base (entry ∷ past) sb
     → ((index : ℕ) → used_of start.base (entry ∷ past) sb ≤ index → IsNoProgram (page_change start.base.shape.dies entry.kind (place_of_slot start.base.shape.dies (slot_at sb index))))
     → ((stripe : ℕ) → used_of start.base (entry ∷ past) sb < (stripe + 1) * (start.base.shape.dies - 1)
-        → IsNoProgram (page_change start.base.shape.dies entry.kind (place_of_parity start.base.shape.dies sb stripe)))
+    → IsNoProgram (page_change start.base.shape.dies entry.kind (place_of_parity start.base.shape.dies sb stripe)))
     → IsFreshAbove coding start contents past sb → IsFreshAbove coding start contents (entry ∷ past) sb
 kept_fresh coding start contents past entry sb more slots parities h = record {
   slots = λ index le.
-    none_stays start.base (page_change start.base.shape.dies entry.kind (place_of_slot start.base.shape.dies (slot_at sb index))) _ _
-    (page_of coding start contents past (place_of_slot start.base.shape.dies (slot_at sb index))) (slots index le) (h.slots index (omega arith));
+      none_stays start.base (page_change start.base.shape.dies entry.kind (place_of_slot start.base.shape.dies (slot_at sb index))) _ _
+      (page_of coding start contents past (place_of_slot start.base.shape.dies (slot_at sb index))) (slots index le) (h.slots index (omega arith));
   parities = λ stripe lt.
-    none_stays start.base (page_change start.base.shape.dies entry.kind (place_of_parity start.base.shape.dies sb stripe)) _ _
-    (page_of coding start contents past (place_of_parity start.base.shape.dies sb stripe)) (parities stripe lt) (h.parities stripe (omega arith));
+      none_stays start.base (page_change start.base.shape.dies entry.kind (place_of_parity start.base.shape.dies sb stripe)) _ _
+      (page_of coding start contents past (place_of_parity start.base.shape.dies sb stripe)) (parities stripe lt) (h.parities stripe (omega arith));
 }
 
 -- the next slot is the first unused one of its superblock, whichever of two equal superblocks is named
@@ -222,11 +234,12 @@ next_here base past slot sb next range e =
 -- a page after an erase of its superblock, or of another one while it wasn't programmed
 erase_none : (base : ChannelBase) (erased : Bool) (a : Option StoredPage) (b : Slot → Option StoredPage) (before : Option StoredPage) → (erased ≡ false → before ≡ None)
     → ◌≡◌ {A = Option StoredPage} (elim (change_when erased empties) [
-      programs ↦ a
-    | programs_parity slot ↦ b slot
-    | empties ↦ None
-    | ages amount ↦ option_map (aged_page base amount) before
-    | leaves ↦ before ]) None
+      | programs ↦ a
+      | programs_parity slot ↦ b slot
+      | empties ↦ None
+      | ages amount ↦ option_map (aged_page base amount) before
+      | leaves ↦ before
+    ]) None
 erase_none base true a b before h = refl
 erase_none base false a b before h = h refl
 
@@ -281,11 +294,11 @@ fresh_step state coding start contents past tag (Kind.BadCopy at slot die fault)
     failed_fresh coding start contents past (made tag (Kind.BadCopy at slot die fault)) sb slot die refl (λ place. refl) good h
 fresh_step state coding start contents past tag (Kind.Erase named) range c sb good h = record {
   slots = λ index le.
-    erase_none start.base (sb == named) _ _ (page_of coding start contents past (place_of_slot start.base.shape.dies (slot_at sb index)))
-    (λ e. h.slots index (used_before named sb (used_of start.base past sb) index e le));
+      erase_none start.base (sb == named) _ _ (page_of coding start contents past (place_of_slot start.base.shape.dies (slot_at sb index)))
+      (λ e. h.slots index (used_before named sb (used_of start.base past sb) index e le));
   parities = λ stripe lt.
-    erase_none start.base (sb == named) _ _ (page_of coding start contents past (place_of_parity start.base.shape.dies sb stripe))
-    (λ e. h.parities stripe (used_below named sb (used_of start.base past sb) ((stripe + 1) * (start.base.shape.dies - 1)) e lt));
+      erase_none start.base (sb == named) _ _ (page_of coding start contents past (place_of_parity start.base.shape.dies sb stripe))
+      (λ e. h.parities stripe (used_below named sb (used_of start.base past sb) ((stripe + 1) * (start.base.shape.dies - 1)) e lt));
 }
 fresh_step state coding start contents past tag (Kind.BadErase named die fault) range c sb good h =
     kept_fresh coding start contents past (made tag (Kind.BadErase named die fault)) sb (used_kept sb (Kind.BadErase named die fault) (used_of start.base past sb) good)

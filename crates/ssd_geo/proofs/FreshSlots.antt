@@ -52,8 +52,11 @@ not_parity dies sb index two = (slots_have_places dies (suc sb) (suc (index / (d
 -- fewer pages are due than the number of an unused slot's page, and than that of an open stripe's parity
 pub due_below_slot : (dies sb used index : ℕ) → 2 ≤ dies → used ≤ index → due_pages dies sb used (place_of_slot dies (slot_at sb index)).die ≤ stripe_of_index dies index
 due_below_slot dies sb used index two le =
-    omega (arith, due_rises dies sb used index (place_of_slot dies (slot_at sb index)).die two (slot_die dies sb index two) le,
-    (pages_rise dies sb index two).of_slot)
+    omega (
+      arith,
+      due_rises dies sb used index (place_of_slot dies (slot_at sb index)).die two (slot_die dies sb index two) le,
+      (pages_rise dies sb index two).of_slot,
+    )
 
 pub due_below_parity : (dies sb used stripe : ℕ) → 2 ≤ dies → used < (stripe + 1) * (dies - 1) → due_pages dies sb used (parity_die dies sb stripe) ≤ stripe
 due_below_parity dies sb used stripe two lt =

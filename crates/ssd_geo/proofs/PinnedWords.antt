@@ -50,7 +50,6 @@ usable_is_sound : (bad picked : Bool) (slots used : ℕ) → (States.is_frontier
 usable_is_sound true picked slots used e = absurd (grind arith)
 usable_is_sound false picked slots used e = refl
 
-
 either_first : (a b : Bool) → a ≡ true → (a || b) ≡ true
 either_first true b e = refl
 either_first false b e = absurd (grind arith)
@@ -80,7 +79,7 @@ next_sound base past slot next range =
     let within : slot.sb < base.shape.superblocks = slot_in_range base.shape slot range in
     let there : Blocks.next_superblock blocks ≡ Some slot.sb = slot_block blocks (Blocks.next_superblock blocks) slot next in
     let usable_there : (States.is_frontier (Blocks.block_at blocks slot.sb).state || States.is_free (Blocks.block_at blocks slot.sb).state) ≡ true =
-        chosen (IsUsable blocks) (Blocks.frontier_of blocks) (Blocks.freshest_of blocks) (frontier_usable blocks) (freshest_usable blocks) slot.sb there in
+    chosen (IsUsable blocks) (Blocks.frontier_of blocks) (Blocks.freshest_of blocks) (frontier_usable blocks) (freshest_usable blocks) slot.sb there in
     usable_is_sound (is_bad base past slot.sb) (is_picked base past slot.sb) (slots_in base) (used_of base past slot.sb)
     (subst (λ (block : BlockBase). (States.is_frontier block.state || States.is_free block.state) ≡ true) (block_is base past slot.sb within) usable_there)
 
@@ -94,11 +93,12 @@ none_is_none page e some = false_is_true (sym (ap {B = Bool} (λ (o : Option Sto
 -- a page under a change that keeps it
 word_stays : (base : ChannelBase) (change : PageChange) (a : Option StoredPage) (b : Slot → Option StoredPage) (before : Option StoredPage) → IsKept change → IsSome before
     → KeepsWord before (elim change [
-      programs ↦ a
-    | programs_parity slot ↦ b slot
-    | empties ↦ None
-    | ages amount ↦ option_map (aged_page base amount) before
-    | leaves ↦ before ])
+      | programs ↦ a
+      | programs_parity slot ↦ b slot
+      | empties ↦ None
+      | ages amount ↦ option_map (aged_page base amount) before
+      | leaves ↦ before
+    ])
 word_stays base programs a b before kept some = absurd kept
 word_stays base (programs_parity slot) a b before kept some = absurd kept
 word_stays base empties a b before kept some = absurd kept
@@ -121,6 +121,7 @@ program_keeps coding start contents past slot place next range fresh some =
   where
     within : (n w : ℕ) → 0 < w → n % w < w
     within n w h = grind arith
+
     below : (u n w : ℕ) → n ≡ u → 0 < w → u < (n / w + 1) * w
     below u n w e h = omega (arith, e, div-add-mod' n w, within n w h)
 
@@ -172,8 +173,10 @@ entry_keeps state coding start contents past tag (Kind.Erase named) range c fres
     when_false : (b : Bool) → b ≡ false → IsKept (change_when b empties)
     when_false true e = absurd (grind arith)
     when_false false e = tt
+
     turned : (a b : ℕ) → (a == b) ≡ false → (b == a) ≡ false
     turned a b e = grind (arith, nat_tests)
+
     not_erased : (a b : ℕ) → (a == b) ≡ false → IsKept (change_when (b == a) empties)
     not_erased a b e = when_false (b == a) (turned a b e)
 entry_keeps state coding start contents past tag (Kind.BadErase named die fault) range c fresh place spared some = not_erased named place.sb (nat_lt place.die die) spared
@@ -181,8 +184,10 @@ entry_keeps state coding start contents past tag (Kind.BadErase named die fault)
     when_false : (b d : Bool) → b ≡ false → IsKept (change_when (b && d) empties)
     when_false true d e = absurd (grind arith)
     when_false false d e = tt
+
     turned : (a b : ℕ) → (a == b) ≡ false → (b == a) ≡ false
     turned a b e = grind (arith, nat_tests)
+
     not_erased : (a b : ℕ) (d : Bool) → (a == b) ≡ false → IsKept (change_when ((b == a) && d) empties)
     not_erased a b d e = when_false (b == a) d (turned a b e)
 entry_keeps state coding start contents past tag (Kind.Age die named amount) range c fresh place spared some = aged (place.die == die && place.sb == named)
@@ -220,18 +225,18 @@ keeps_step state coding start contents past entry range c fresh pin spared h =
     record {
       began = omega (arith, h.began);
       pages = λ place of_sb some.
-        let first : KeepsWord (page_of coding start contents (past_at past pin.1.at) place) (page_of coding start contents past place) =
-            h.pages place of_sb (subst (λ (p : List Entry). IsSome (page_of coding start contents p place)) same some) in
-        let spared_place : is_erase_of place.sb entry.kind ≡ false = subst (λ (sb : ℕ). is_erase_of sb entry.kind ≡ false) (sym of_sb) spared in
-        let next : KeepsWord (page_of coding start contents past place) (page_of coding start contents (entry ∷ past) place) =
-            word_stays start.base (page_change start.base.shape.dies entry.kind place) _ _ (page_of coding start contents past place)
-            (entry_keeps state coding start contents past entry.tag entry.kind range c fresh place spared_place first.programmed) first.programmed in
-        let both : KeepsWord (page_of coding start contents (past_at past pin.1.at) place) (page_of coding start contents (entry ∷ past) place) =
-            record { programmed = next.programmed; word = next.word ∙ first.word } in
-        subst (λ (p : List Entry). KeepsWord (page_of coding start contents p place) (page_of coding start contents (entry ∷ past) place)) (sym same) both;
+          let first : KeepsWord (page_of coding start contents (past_at past pin.1.at) place) (page_of coding start contents past place) =
+          h.pages place of_sb (subst (λ (p : List Entry). IsSome (page_of coding start contents p place)) same some) in
+          let spared_place : is_erase_of place.sb entry.kind ≡ false = subst (λ (sb : ℕ). is_erase_of sb entry.kind ≡ false) (sym of_sb) spared in
+          let next : KeepsWord (page_of coding start contents past place) (page_of coding start contents (entry ∷ past) place) =
+          word_stays start.base (page_change start.base.shape.dies entry.kind place) _ _ (page_of coding start contents past place)
+          (entry_keeps state coding start contents past entry.tag entry.kind range c fresh place spared_place first.programmed) first.programmed in
+          let both : KeepsWord (page_of coding start contents (past_at past pin.1.at) place) (page_of coding start contents (entry ∷ past) place) =
+          record { programmed = next.programmed; word = next.word ∙ first.word } in
+          subst (λ (p : List Entry). KeepsWord (page_of coding start contents p place) (page_of coding start contents (entry ∷ past) place)) (sym same) both;
       used = subst (λ (p : List Entry). used_of start.base p pin.1.slot.sb ≤ used_of start.base (entry ∷ past) pin.1.slot.sb) (sym same)
-        (le_trans_of (used_of start.base (past_at past pin.1.at) pin.1.slot.sb) (used_of start.base past pin.1.slot.sb) (used_of start.base (entry ∷ past) pin.1.slot.sb) h.used
-        (used_kept pin.1.slot.sb entry.kind (used_of start.base past pin.1.slot.sb) (spared_keeps pin.1.slot.sb entry.kind spared)));
+          (le_trans_of (used_of start.base (past_at past pin.1.at) pin.1.slot.sb) (used_of start.base past pin.1.slot.sb) (used_of start.base (entry ∷ past) pin.1.slot.sb) h.used
+          (used_kept pin.1.slot.sb entry.kind (used_of start.base past pin.1.slot.sb) (spared_keeps pin.1.slot.sb entry.kind spared)));
     }
   where
     le_trans_of : (a b d : ℕ) → a ≤ b → b ≤ d → a ≤ d
@@ -246,8 +251,8 @@ new_keeps coding start contents past tag by row found closed look at =
     record {
       began = omega (arith, at);
       pages = λ place of_sb some.
-        subst (λ (p : List Entry). KeepsWord (page_of coding start contents p place) (page_of coding start contents (entry ∷ past) place)) (sym same)
-        (record { programmed = subst (λ (p : List Entry). IsSome (page_of coding start contents p place)) same some; word = refl });
+          subst (λ (p : List Entry). KeepsWord (page_of coding start contents p place) (page_of coding start contents (entry ∷ past) place)) (sym same)
+          (record { programmed = subst (λ (p : List Entry). IsSome (page_of coding start contents p place)) same some; word = refl });
       used = subst (λ (p : List Entry). used_of start.base p look.slot.sb ≤ used_of start.base (entry ∷ past) look.slot.sb) (sym same) (le_same (used_of start.base past look.slot.sb));
     }
   where

@@ -22,8 +22,8 @@ use Rattle.ssd_geo.specs.declared.tag.Tag.{Tag}
 abbrev pub HasDuePages : Start → Type 0
 HasDuePages start =
     (die sb : ℕ) → die < start.base.shape.dies → sb < start.base.shape.superblocks
-        → States.is_bad (block_at start.base.blocks sb).state ≡ false
-        → length (cells_at start die sb).pages ≡ due_pages start.base.shape.dies sb (block_at start.base.blocks sb).used die
+    → States.is_bad (block_at start.base.blocks sb).state ≡ false
+    → length (cells_at start die sb).pages ≡ due_pages start.base.shape.dies sb (block_at start.base.blocks sb).used die
 
 -- a page that was programmed still is, with the same word
 pub record KeepsWord (before after : Option StoredPage) : Type 0 where
@@ -34,7 +34,7 @@ pub record KeepsWord (before after : Option StoredPage) : Type 0 where
 pub record KeepsPages (coding : Coding) (start : Start) (contents : List (Tag × List ℕ)) (past : List Entry) (pin : Tag × Look) : Type 0 where
   pub began : pin.1.at < length past
   pub pages :
-    (place : Place) → place.sb ≡ pin.1.slot.sb → IsSome (page_of coding start contents (past_at past pin.1.at) place)
+      (place : Place) → place.sb ≡ pin.1.slot.sb → IsSome (page_of coding start contents (past_at past pin.1.at) place)
       → KeepsWord (page_of coding start contents (past_at past pin.1.at) place) (page_of coding start contents past place)
   pub used : used_of start.base (past_at past pin.1.at) pin.1.slot.sb ≤ used_of start.base past pin.1.slot.sb
 
@@ -42,4 +42,4 @@ pub record KeepsPages (coding : Coding) (start : Start) (contents : List (Tag ×
 abbrev pub PinnedPagesStay : Type 0
 PinnedPagesStay =
     (ladder : List Entry → ℕ → LadderState) (coding : Coding) (start : Start) (contents : List (Tag × List ℕ)) (past : List Entry) →
-        HasDuePages start → IsLawfulBy ladder start.base past → All (KeepsPages coding start contents past) (open_looks past)
+    HasDuePages start → IsLawfulBy ladder start.base past → All (KeepsPages coding start contents past) (open_looks past)
