@@ -170,3 +170,10 @@ two_reads = call_of 0 0 (Read 1) ∷ call_of 0 1 (Read 1) ∷ []
 -- a line with one more
 abbrev pub read_line : Line
 read_line = record { text = codes "0 read 1"; taken = 9 }
+
+-- the trace that writes and reads one page
+abbrev pub one_page_calls : Trace
+one_page_calls = record {
+  actors = 1;
+  calls = call_of 0 0 (Write 5 (Listed (1 ∷ 2 ∷ []))) ∷ call_of 0 1 (Read 5) ∷ [];
+}

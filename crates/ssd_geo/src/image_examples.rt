@@ -1,10 +1,14 @@
 //! The head of an image and its first faults at examples that were worked out by hand.
-ghost use Rattle.std.specs.Prelude.{◌≡◌, length, ◌∷◌, ◌++◌, [], map, Ok, Err, take, ◌-◌};
+ghost use Rattle.std.specs.Prelude.{codes, ◌≡◌, length, ◌∷◌, ◌++◌, [], map, Ok, Err, take, ◌-◌};
 ghost use Rattle.std.specs.List.{range_with_len};
 ghost use Rattle.ssd_geo.specs.ImageContents.{blank_channel, image_bytes, read_image};
 ghost use Rattle.ssd_geo.specs.ImageExamples.{read_lists, small_image, small_head, fault_of_first, saved_small_head, saved_small_image, one_page_saved, page_image, small_image_with, with_bytes, weak_at, bad_at};
 ghost use Rattle.ssd_geo.specs.ImageHead.{head_bytes, read_head};
-ghost use Rattle.ssd_geo.specs.InputFaults.{short, magic, range, entry, parity, diagonal, order, state, count, sum, row};
+ghost use Rattle.ssd_geo.specs.Input.{read_input};
+ghost use Rattle.ssd_geo.specs.Statuses.{image, trace};
+ghost use Rattle.ssd_geo.specs.TextExamples.{lines_text};
+ghost use Rattle.ssd_geo.specs.TraceExamples.{one_page_calls};
+ghost use Rattle.ssd_geo.specs.InputFaults.{first, out_of_range, short, magic, range, entry, parity, diagonal, order, state, count, sum, row};
 
 /// A blank image: its head is read whatever follows, and is written as it stood.
 pub fn example_image()
@@ -76,4 +80,14 @@ pub fn example_contents_faults()
     ensures row_index { read_image (take 160 (with_bytes saved_small_image 153 (1 ∷ 0 ∷ 0 ∷ 0 ∷ 0 ∷ 0 ∷ 0 ∷ []))) ≡ Err (153, row) }
     ensures row_repeated { read_image (take 989 page_image ++ 1 ∷ 0 ∷ 0 ∷ 0 ∷ 0 ∷ 0 ∷ 0 ∷ 9 ∷ []) ≡ Err (989, row) }
     ensures row_short { read_image (take 986 page_image) ≡ Err (986, short) }
+{}
+
+/// An input is an image and then a trace: what it gives, and the status of its first fault.
+pub fn example_input()
+    ensures given { read_input (small_image ++ lines_text (codes "trace 1 1" ∷ codes "0 write 5 x0102" ∷ codes "0 read 5" ∷ []))
+        ≡ Ok (record { head = small_head; channels = blank_channel small_head 0 ∷ []; calls = one_page_calls }) }
+    ensures no_image { read_input [] ≡ Err (image 0 short) }
+    ensures no_trace { read_input small_image ≡ Err (trace 1 first) }
+    ensures no_page { read_input (small_image ++ lines_text (codes "trace 1 1" ∷ codes "0 write 8 x00" ∷ []))
+        ≡ Err (trace 2 out_of_range) }
 {}
