@@ -1,0 +1,5 @@
+pub mod Printing
+pub mod WordText
+pub mod TextParts
+pub mod Places
+pub mod SummaryText
