@@ -12,6 +12,7 @@ pub mod LadderBound
 pub mod LineLaws
 pub mod MapRows
 pub mod NumberLaws
+pub mod OneOfEach
 pub mod OpenLookLaws
 pub mod Payloads
 pub mod PinnedWords

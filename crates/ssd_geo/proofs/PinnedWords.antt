@@ -36,7 +36,7 @@ use Rattle.ssd_geo.proofs.RewrittenRows.{all_by_two, erases_spare_looks}
 use Rattle.ssd_geo.proofs.UsedSlots.{Keeps, block_is, first_holds, made, next_is_used, of_some, second_holds, slot_in_range, used_kept}
 
 -- the next slot's superblock, among all of them
-slot_block : (blocks : List BlockBase) (o : Option ℕ) (slot : Slot) → Blocks.slot_in blocks o ≡ Some slot → o ≡ Some slot.sb
+pub slot_block : (blocks : List BlockBase) (o : Option ℕ) (slot : Slot) → Blocks.slot_in blocks o ≡ Some slot → o ≡ Some slot.sb
 slot_block blocks None slot e = absurd (grind arith)
 slot_block blocks (Some sb) slot e = ap {B = Option ℕ} (option_map (λ (s : Slot). s.sb)) e
 

@@ -3,6 +3,7 @@
 #![tactic(auto)]
 
 mod base;
+mod block_laws;
 mod cell_examples;
 mod cell_law;
 mod code_examples;
