@@ -46,8 +46,10 @@ none_found p xs i d e lt = before_first p xs i d (omega (arith, past_end (positi
     by_test : (b : Bool) (m : ℕ) → ◌≡◌ {A = Option ℕ} (cond b (Some m) None) None → b ≡ false
     by_test true m e = absurd (grind arith)
     by_test false m e = refl
+
     above : (m n : ℕ) → nat_lt m n ≡ false → n ≤ m
     above m n e = grind (arith, nat_tests)
+
     past_end : (m n : ℕ) → ◌≡◌ {A = Option ℕ} (cond (nat_lt m n) (Some m) None) None → n ≤ m
     past_end m n e = above m n (by_test (nat_lt m n) m e)
 
@@ -61,7 +63,7 @@ no_block base past test sb e lt =
 found_block : (base : ChannelBase) (past : List Entry) (test : BlockBase → Bool) (sb : ℕ) → position test (blocks_of base past) ≡ Some sb → (sb < base.shape.superblocks) × (test (block_of base past sb) ≡ true)
 found_block base past test sb e =
     let parts : (sb < length (blocks_of base past)) × (test (Blocks.block_at (blocks_of base past) sb) ≡ true) =
-        (first_part test (blocks_of base past) sb e, (position-Some test (blocks_of base past) sb Blocks.blank_block e).1) in
+    (first_part test (blocks_of base past) sb e, (position-Some test (blocks_of base past) sb Blocks.blank_block e).1) in
     let within : sb < base.shape.superblocks = omega (arith, parts.0, length-map-range_with_len (block_of base past) 0 base.shape.superblocks) in
     (within, subst (λ (block : BlockBase). test block ≡ true) (block_is base past sb within) parts.1)
   where
@@ -160,7 +162,7 @@ frontier_is_next base past sb one next b lt h =
     by_frontier (Some k) e there =
         let found : (k < base.shape.superblocks) × (is_frontier (state_of base past k) ≡ true) = found_block base past Blocks.is_frontier_block k e in
         let first : ◌≡◌ {A = Option ℕ} (Some k) (Some next.slot.sb) =
-            ap {B = Option ℕ} (λ (o : Option ℕ). Blocks.first_some o (Blocks.freshest_of (blocks_of base past))) (sym e) ∙ there in
+        ap {B = Option ℕ} (λ (o : Option ℕ). Blocks.first_some o (Blocks.freshest_of (blocks_of base past))) (sym e) ∙ there in
         sym next.here ∙ sym (some_number k next.slot.sb first) ∙ one k b found.0 lt found.1 h
 
 one_next : (base : ChannelBase) (past : List Entry) (a b : ℕ) → IsNextIn base past a → IsNextIn base past b → a ≡ b

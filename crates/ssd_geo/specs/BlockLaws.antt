@@ -18,10 +18,10 @@ AtMostOne test base past =
 abbrev pub OneFrontier : Type 0
 OneFrontier =
     (ladder : List Entry → ℕ → LadderState) (base : ChannelBase) (past : List Entry) →
-        AtMostOne is_frontier base [] → IsLawfulBy ladder base past → AtMostOne is_frontier base past
+    AtMostOne is_frontier base [] → IsLawfulBy ladder base past → AtMostOne is_frontier base past
 
 -- and at most one victim
 abbrev pub OneVictim : Type 0
 OneVictim =
     (ladder : List Entry → ℕ → LadderState) (base : ChannelBase) (past : List Entry) →
-        AtMostOne is_victim base [] → IsLawfulBy ladder base past → AtMostOne is_victim base past
+    AtMostOne is_victim base [] → IsLawfulBy ladder base past → AtMostOne is_victim base past
