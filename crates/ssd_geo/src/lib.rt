@@ -4,6 +4,7 @@
 
 mod base;
 mod block_laws;
+mod call_examples;
 mod cell_examples;
 mod cell_law;
 mod code_examples;
@@ -46,6 +47,7 @@ mod word_examples;
 
 pub use base::BlockBase;
 pub use base::ChannelBase;
+pub use call_examples::{collect_replies, example_picks_followed, read_replies, write_replies};
 pub use cell_examples::noise_from_zero;
 pub use cell_examples::senses_of_a_byte;
 pub use cell_law::CellLaw;
