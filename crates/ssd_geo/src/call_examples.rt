@@ -2,8 +2,14 @@
 ghost use Rattle.std.specs.Prelude.{◌≡◌, []};
 ghost use Rattle.ssd_geo.specs.CallExamples.{PicksAs, ReadReplies, WriteReplies, steps_in};
 ghost use Rattle.ssd_geo.specs.HistoryExamples.{
-    collected_history, faulted_history, freed_history, idle_history, overwritten_history, trimmed_history, weak_on_die_0,
-    worn_history
+  collected_history,
+  faulted_history,
+  freed_history,
+  idle_history,
+  overwritten_history,
+  trimmed_history,
+  weak_on_die_0,
+  worn_history,
 };
 ghost use Rattle.ssd_geo.specs.Replies.{collect_reply};
 ghost use Rattle.ssd_geo.specs.declared.policy_view.PolicyKind.TheVariants.{Greedy, Oldest, RoundRobin};

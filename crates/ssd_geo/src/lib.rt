@@ -47,7 +47,10 @@ mod word_examples;
 
 pub use base::BlockBase;
 pub use base::ChannelBase;
-pub use call_examples::{collect_replies, example_picks_followed, read_replies, write_replies};
+pub use call_examples::collect_replies;
+pub use call_examples::example_picks_followed;
+pub use call_examples::read_replies;
+pub use call_examples::write_replies;
 pub use cell_examples::noise_from_zero;
 pub use cell_examples::senses_of_a_byte;
 pub use cell_law::CellLaw;
