@@ -96,7 +96,8 @@ impl Mounted {
         ensures status { (result ≡ status_passed) ⊎ (result ≡ status_failed) }
         ensures plan { self.new.plan ≡ self.old.plan }
     {
-        if is_weak_at(&self.plan, sb, self.store.erases(sb)) {
+        let erases = self.store.erases(sb);
+        if is_weak_at(&self.plan, sb, erases) {
             return FAILED;
         }
         data_into(cycles, &mut self.word);

@@ -12,6 +12,8 @@ mod op;
 mod plan;
 mod reading;
 mod stop;
+#[cfg(test)]
+mod tests;
 mod writing;
 
 pub use address::{level_params, row_address, row_place};
