@@ -1,3 +1,4 @@
+pub mod Listed
 pub mod SimState
 pub mod Simulated
 pub mod Stored
