@@ -17,6 +17,7 @@ pub mod OpenLookLaws
 pub mod Payloads
 pub mod PinnedWords
 pub mod RewrittenRows
+pub mod RoundExamples
 pub mod SenseValues
 pub mod Sizes
 pub mod StripeLists

@@ -1,6 +1,6 @@
 //! What calls of the worked histories answer, and which policies would make their picks.
 ghost use Rattle.std.specs.Prelude.{◌≡◌, []};
-ghost use Rattle.ssd_geo.specs.CallExamples.{PicksAs, ReadReplies, WriteReplies, steps_in};
+ghost use Rattle.ssd_geo.specs.CallExamples.{IsCollectExample, IsWriteExample, PicksAs, ReadReplies, WriteReplies, steps_in};
 ghost use Rattle.ssd_geo.specs.HistoryExamples.{
   collected_history,
   faulted_history,
@@ -42,4 +42,11 @@ pub fn example_picks_followed()
     ensures greedy { PicksAs Greedy collected_history }
     ensures oldest { PicksAs Oldest collected_history }
     ensures round_robin { PicksAs RoundRobin collected_history }
+{}
+
+/// The last write of the worked collection is a round and then a write of its row, and the worked collect is a round
+/// that erases.
+pub fn example_rounds()
+    ensures write { IsWriteExample collected_history 12 5 }
+    ensures collect { IsCollectExample freed_history 5 }
 {}

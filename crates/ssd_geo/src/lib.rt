@@ -49,6 +49,7 @@ pub use base::BlockBase;
 pub use base::ChannelBase;
 pub use call_examples::collect_replies;
 pub use call_examples::example_picks_followed;
+pub use call_examples::example_rounds;
 pub use call_examples::read_replies;
 pub use call_examples::write_replies;
 pub use cell_examples::noise_from_zero;
