@@ -1,4 +1,4 @@
-ghost use Rattle.std.specs.Prelude.{◌≡◌, ◌<◌, ◌-◌, ◌^◌, IfSome, IsSome, IsTrue, None, Some, length, slice_set, true};
+ghost use Rattle.std.specs.Prelude.{◌≡◌, ◌<◌, ◌-◌, ◌^◌, ◌↔◌, IfSome, IsSome, IsTrue, None, Some, length, slice_set, true};
 ghost use Rattle.allocator.specs.Superblocks.{MayBeOne};
 ghost use Rattle.ssd_geo.specs.Blocks.{AreSound, block_at, count_of_free, frontier_of, is_due_block, is_frontier_block, is_victim_block, has_any_room, has_host_room, is_worn, left_in, next_slot_of, next_superblock, slots_left, victim_of, with_erased, with_next_used, with_retired, with_victim};
 ghost use Rattle.ssd_geo.specs.States.{is_sealed};
@@ -77,6 +77,7 @@ impl Blocks {
     /// The next slot: the frontier's, or the first one of the free superblock with the least erase count.
     pub fn next_slot(&self) -> Option<Slot>
         ensures slot { result ≡ next_slot_of self.now.blocks }
+        ensures any_room { IsSome result ↔ IsTrue (has_any_room self.now.blocks) }
         ensures in_range { IfSome result (λ slot. (slot.sb < length self.now.blocks) × (slot.index < self.now.slots)) }
         ensures sound { AreSound self.now.slots self.now.blocks }
     {

@@ -1,3 +1,4 @@
+mod FirstLive
+mod Least
 mod Owners
 mod Setting
-mod Least

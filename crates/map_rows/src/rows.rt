@@ -1,4 +1,4 @@
-ghost use Rattle.std.specs.Prelude.{◌≡◌, ℕ, ◌<◌, IfOk, IsTrue, Some, filter_map, length, min, replicate, slice_set, unwrap_or};
+ghost use Rattle.std.specs.Prelude.{◌≡◌, ℕ, ◌<◌, ◌↔◌, IfOk, IfSome, IsNone, IsSome, IsTrue, Some, filter_map, length, min, replicate, slice_set, unwrap_or};
 ghost use Rattle.ssd_geo.specs.PageMap.{first_live_in, index_in, least_of, live_in, names_slot, names_superblock, names_within, NoOtherNames, owner_of, row_at};
 ghost use Rattle.ssd_geo.specs.declared.row.Row.TheVariants.{Empty};
 
@@ -90,7 +90,10 @@ impl Rows {
     /// The live slot of least index in the superblock.
     pub fn first_live(&self, sb: u16) -> Option<Slot>
         requires { sb < self.now.superblocks }
-        ensures { result ≡ first_live_in self.now.rows sb }
+        ensures value { result ≡ first_live_in self.now.rows sb }
+        ensures none { IsNone result ↔ live_in self.now.rows sb ≡ 0 }
+        ensures within { IfSome result (λ slot. (slot.sb ≡ sb) × (slot.index < self.now.slots)) }
+        ensures owned { IfSome result (λ slot. IsSome (owner_of self.now.rows slot)) }
     {
         match least_index(&self.rows, sb) {
             Some(index) => Some(Slot { sb, index }),

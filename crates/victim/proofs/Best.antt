@@ -1,10 +1,11 @@
 -- The candidate with the most garbage, among those so far and among all.
-use Rattle.std.proofs.Common.{◌≡◌, ℕ, zero, suc, ◌+◌, ◌<◌, ◌≤◌, inl, inr, List, [], ◌∷◌, length, get_or, Option, Some, None, Bool, true, false, ◌&&◌, cond, refl, arith, nat_lt}
-use Rattle.std.specs.List.{list_all, position, position_or_len}
+use Rattle.std.proofs.Common.{◌≡◌, ℕ, zero, suc, ◌+◌, ◌<◌, ◌≤◌, inl, inr, List, [], ◌∷◌, length, get_or, Option, Some, None, Bool, true, false, ◌&&◌, cond, refl, arith, nat_lt, ◌∙◌, ◌↔◌, IfSome, IsTrue}
+use Rattle.std.specs.Prelude.{IsNone}
+use Rattle.std.specs.List.{count_by, list_all, position, position_or_len}
 use Rattle.std.proofs.lemmas.Bool.{and_from, cases_eq, le-leb, lt-leb, ltb-false, ltb-true}
 use Rattle.std.proofs.lemmas.List.Folds.{list_all_at}
-use Rattle.std.proofs.lemmas.List.Sums.{position_or_len_is}
-use Rattle.ssd_geo.specs.Policies.{default_victim_of, has_most_garbage, has_no_more_garbage, is_candidate_at, no_info}
+use Rattle.std.proofs.lemmas.List.Sums.{position_or_len_is, sum_by-cons, sum_by_more_le}
+use Rattle.ssd_geo.specs.Policies.{count_of_candidates, default_victim_of, has_most_garbage, has_no_more_garbage, is_candidate, is_candidate_at, no_info}
 use Rattle.ssd_geo.specs.declared.superblock.SbInfo.{SbInfo}
 use Rattle.victim.specs.First.{beats, best_with, garbage_at}
 
@@ -126,3 +127,27 @@ best_is table (Some b) h =
     (position_or_len_is (has_most_garbage table) table b no_info (omega arith)
     (λ k lt. not_most table b k (is_candidate_at table k) refl h lt) (λ _. most_at table b h))
     h.0
+
+-- the best of all, if there is one, is a candidate of the table
+pub best_is_candidate : (table : List SbInfo) (best : Option ℕ) → IsBest table (length table) best
+    → IfSome best (λ sb. (sb < length table) × IsTrue (is_candidate_at table sb))
+best_is_candidate table None h = tt
+best_is_candidate table (Some b) h = (h.0, h.1)
+
+none_counted : (p : SbInfo → Bool) (xs : List SbInfo) → ((k : ℕ) → k < length xs → p (get_or xs k no_info) ≡ false)
+    → count_by p xs ≡ 0
+none_counted p [] fail = refl
+none_counted p (x ∷ xs) fail =
+    let one : Bool → ℕ = λ b. cond b 1 0 in
+    let first : one (p x) ≡ 0 = let e : p x ≡ false = fail zero (omega arith) in rw e refl in
+    let rest : count_by p xs ≡ 0 = none_counted p xs (λ k lt. fail (suc k) (omega arith)) in
+    sum_by-cons (λ y. cond (p y) 1 0) x xs ∙ omega (arith, first, rest)
+
+-- there is a best of all exactly where there are candidates
+pub best_none : (table : List SbInfo) (best : Option ℕ) → IsBest table (length table) best
+    → IsNone best ↔ count_of_candidates table ≡ 0
+best_none table None h = ((λ e. none_counted is_candidate table h), (λ e. refl))
+best_none table (Some b) h = (
+  (λ e. cc),
+  (λ e. absurd (omega (arith, rw h.1 at (sum_by_more_le (λ info. cond (is_candidate info) 1 0) table b no_info h.0), e))),
+)

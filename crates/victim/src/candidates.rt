@@ -1,6 +1,6 @@
-ghost use Rattle.std.specs.Prelude.{◌≡◌, ◌<◌, ◌≤◌, nat_le, ◌&&◌, not, IfSome, find, length, option_to_list, slice_index_or, false};
+ghost use Rattle.std.specs.Prelude.{◌≡◌, ◌<◌, ◌≤◌, nat_le, ◌&&◌, ◌↔◌, not, IfSome, IsNone, IsTrue, find, length, option_to_list, slice_index_or, false};
 ghost use Rattle.ssd_geo.specs.Policies as Policies;
-ghost use Rattle.ssd_geo.specs.Policies.{candidates, default_victim_of, garbage_in, is_after_last};
+ghost use Rattle.ssd_geo.specs.Policies.{candidates, count_of_candidates, default_victim_of, garbage_in, is_after_last};
 ghost use Rattle.victim.specs.First.{IsFirst, beats, best_with, start_after};
 
 use ssd_geo::{SbInfo, SbState};
@@ -8,7 +8,9 @@ use ssd_geo::{SbInfo, SbState};
 /// The candidate with the most garbage, the least number among equals. A candidate is sealed and has garbage.
 pub fn default_victim(table: &[SbInfo]) -> Option<u16>
     requires { length table.now ≤ 256 }
-    ensures { result ≡ default_victim_of table.now }
+    ensures value { result ≡ default_victim_of table.now }
+    ensures candidate { IfSome result (λ sb. (sb < length table.now) × IsTrue (Policies.is_candidate_at table.now sb)) }
+    ensures none { IsNone result ↔ count_of_candidates table.now ≡ 0 }
 {
     let mut best = None;
     for sb in 0..table.len() {
