@@ -20,6 +20,7 @@ pub mod RewrittenRows
 pub mod RoundExamples
 pub mod SenseValues
 pub mod Sizes
+pub mod SpelledHeads
 pub mod StripeLists
 pub mod Stripes
 pub mod TextLaws

@@ -2,6 +2,7 @@
 -- short, at the number of bytes that there are; any other fault is at the first byte of what it names. Numbers stand
 -- low byte first.
 use Rattle.std.specs.Prelude.{ℕ, zero, suc, ◌+◌, nat_lt, nat_le, Bool, true, ◌&&◌, if◌then◌else◌, List, [], ◌∷◌, ◌++◌, length, take, drop, bytes_eq, ℤ, pos, negsuc, int_le, Option, Some, None, Result, Ok, Err}
+use Rattle.std.specs.List.{list_all}
 use Rattle.std.specs.Int.{Width, w16, byte_len, from_le_bytes, to_le_bytes, cast_signed, cast_unsigned}
 use Rattle.ssd_geo.specs.InputFaults.{ImageFault, short, magic, range}
 
@@ -90,3 +91,7 @@ level_fields zero before rest = Ok (before, rest)
 level_fields (suc n) before rest = do
   level ← signed_field is_level rest
   level_fields n (before ++ level.0 ∷ []) level.1
+
+-- whether numbers are bytes
+abbrev pub are_bytes : List ℕ → Bool
+are_bytes bytes = list_all (λ byte. nat_lt byte 256) bytes

@@ -5,7 +5,7 @@ use Rattle.std.specs.Int.{w8, w16, w32, w64, to_le_bytes}
 use Rattle.std.specs.List.{list_all}
 use Rattle.std.specs.Option.{option_map_or}
 use Rattle.ssd_geo.specs.BaseMatrix.{BaseMatrix, MatrixFault, entry_range, parity_column, diagonal as diagonal_of, first_fault}
-use Rattle.ssd_geo.specs.Fields.{Rest, Fault, Reading, ◌>>=◌, bytes_field, number_field, signed_field, text_field, signed_of_bytes, bytes_of_signed, is_any, is_within, is_below, is_level, is_signed_within, level_fields}
+use Rattle.ssd_geo.specs.Fields.{are_bytes, Rest, Fault, Reading, ◌>>=◌, bytes_field, number_field, signed_field, text_field, signed_of_bytes, bytes_of_signed, is_any, is_within, is_below, is_level, is_signed_within, level_fields}
 use Rattle.ssd_geo.specs.InputFaults.{range, entry, parity, diagonal, order}
 use Rattle.ssd_geo.specs.Limits.{cells_of}
 use Rattle.ssd_geo.specs.declared.cell_law.CellLaw.{CellLaw}
@@ -354,3 +354,8 @@ abbrev pub HeadIsRead : Type 0
 HeadIsRead =
     (head : Head) (more : List ℕ) → IsHead head →
     read_head (head_bytes head ++ more) ≡ Ok (head, record { place = length (head_bytes head); bytes = more })
+
+-- a head that was read from bytes has a spelling
+abbrev pub HeadHasSpelling : Type 0
+HeadHasSpelling =
+    (bytes : List ℕ) (head : Head) (rest : Rest) → IsTrue (are_bytes bytes) → read_head bytes ≡ Ok (head, rest) → IsHead head

@@ -1,6 +1,6 @@
 //! What images and their bytes are to one another.
 ghost use Rattle.ssd_geo.specs.ImageContents.{ContentsAreRead, ImageIsRead};
-ghost use Rattle.ssd_geo.specs.ImageHead.{HeadIsRead};
+ghost use Rattle.ssd_geo.specs.ImageHead.{HeadHasSpelling, HeadIsRead};
 
 /// A head that was written is read again, whatever follows.
 pub fn heads_are_read()
@@ -15,4 +15,9 @@ pub fn contents_are_read()
 /// A full image that was written is read again, whatever follows.
 pub fn images_are_read()
     ensures { ImageIsRead }
+{}
+
+/// A head that was read from bytes has a spelling, so that it is read again from what is written of it.
+pub fn read_heads_have_spellings()
+    ensures { HeadHasSpelling }
 {}
