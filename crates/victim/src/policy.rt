@@ -18,7 +18,7 @@ pub trait Policy: Drop {
         ensures answer { IfSome (told self.old) (λ view. result ≡ answer_of view table.now) }
         ensures view { told self.new ≡ option_map (λ view. view_after_pick view table.now) (told self.old) };
 
-    /// Hears that the superblock was erased.
+    /// Is told that the superblock was erased.
     fn erased(&mut self, sb: u16)
         requires { sb < 256 }
         ensures { told self.new ≡ option_map (λ view. view_after_erase view sb) (told self.old) };

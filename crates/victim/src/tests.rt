@@ -28,7 +28,7 @@ fn mixed() -> [SbInfo; 5] {
 }
 
 // Nothing that may be picked.
-fn barren() -> [SbInfo; 4] {
+fn without_candidates() -> [SbInfo; 4] {
     [
         info(SbState::Sealed, 4),
         info(SbState::Free, 0),
@@ -46,7 +46,7 @@ fn picked(policy: &mut Box<dyn Policy + Send>, table: &[SbInfo]) -> u16
     policy.pick(table)
 }
 
-fn hears(policy: &mut Box<dyn Policy + Send>, sb: u16)
+fn told_of_erase(policy: &mut Box<dyn Policy + Send>, sb: u16)
     requires { sb < 256 }
     ensures { told policy.new ≡ option_map (λ view. view_after_erase view sb) (told policy.old) }
 {
@@ -65,10 +65,10 @@ fn work(rt: &impl Abort, policy: &mut Box<dyn Policy + Send>, steps: &[Step]) {
     for step in steps {
         match *step {
             Step::Pick(sb) => assert_eq!(rt; picked(policy, &mixed()), sb, "among {steps:?}"),
-            Step::Nothing => assert_eq!(rt; picked(policy, &barren()), 65_535),
+            Step::Nothing => assert_eq!(rt; picked(policy, &without_candidates()), 65_535),
             Step::Erased(sb) => {
                 assert!(rt; sb < 256);
-                hears(policy, sb);
+                told_of_erase(policy, sb);
             }
         }
     }
@@ -77,7 +77,7 @@ fn work(rt: &impl Abort, policy: &mut Box<dyn Policy + Send>, steps: &[Step]) {
 #[test]
 fn the_most_garbage_is_picked(rt: HostRuntime) -> Result<(), Fail> {
     assert_eq!(rt; default_victim(&mixed()), Some(0));
-    assert_eq!(rt; default_victim(&barren()), None);
+    assert_eq!(rt; default_victim(&without_candidates()), None);
     let mut policy: Box<dyn Policy + Send> = Box::new(rt.alloc(), Greedy::new())?;
     work(
         &rt,
