@@ -307,3 +307,26 @@ own (Command command ∷ others) op h =
     (own_line command cycles others _ _ op _ 0xEE
     (λ e none. subst (λ (n : ℕ). AreItsOwn (Command n ∷ others) (GetFeatures (value_at (Command n ∷ others) 1))) (sym e) (own_get_features others none))
     (λ later. absurd (cc)))))))) h
+
+-- the data bytes of the cycles of an operation are those that were sent
+pub sent_bytes : (op : Op) (bytes : List ℕ) → HasItsBytes op bytes → bytes_of_op op (cycles_of op bytes) ≡ bytes
+sent_bytes (Read column row) bytes h = sym h
+sent_bytes (Program column row) [] h = absurd (omega arith)
+sent_bytes (Program column row) (first ∷ others) h =
+    bytes_of_program (column % 256) (column / 256) (row % 256) (row / 256 % 256) (row / 65536) first others
+sent_bytes (Erase row) bytes h = sym h
+sent_bytes Status bytes h = sym h
+sent_bytes Reset bytes h = sym h
+sent_bytes (SetFeatures address params) bytes h = sym h
+sent_bytes (GetFeatures address) bytes h = sym h
+
+-- no operation has more cycles than a program of its bytes
+pub few_cycles : (op : Op) (bytes : List ℕ) → HasItsFeature op → length (cycles_of op bytes) ≤ length bytes + 7
+few_cycles (Read column row) bytes f = omega arith
+few_cycles (Program column row) bytes f = let data_length = length_of_data bytes in omega arith
+few_cycles (Erase row) bytes f = omega arith
+few_cycles Status bytes f = omega arith
+few_cycles Reset bytes f = omega arith
+few_cycles (SetFeatures address (p ∷ q ∷ r ∷ s ∷ [])) bytes f = omega arith
+few_cycles (SetFeatures address params) bytes f = absurd (omega (arith, f.1))
+few_cycles (GetFeatures address) bytes f = omega arith
