@@ -1,8 +1,10 @@
-ghost use Rattle.std.specs.Prelude.{◌≡◌, ◌<◌, ◌≤◌, IfSome, length, option_map};
-ghost use Rattle.ssd_geo.specs.Policies.{answer_of, view_after_erase, view_after_pick};
+ghost use Rattle.std.specs.Prelude.{◌≡◌, ◌<◌, ◌≤◌, IfOk, IfSome, length, option_map};
+ghost use Rattle.ssd_geo.specs.Policies.{answer_of, first_view, view_after_erase, view_after_pick};
+ghost use Rattle.ssd_geo.specs.declared.policy_view.PolicyKind.TheVariants as kind;
 
 use crate::{Greedy, Oldest, Policy, RoundRobin, default_victim};
 use ssd_geo::{SbInfo, SbState};
+use std::alloc::{AllocError, Global};
 use std::process::Abort;
 use std::test::Fail;
 
@@ -53,6 +55,15 @@ fn told_of_erase(policy: &mut Box<dyn Policy + Send>, sb: u16)
     policy.erased(sb);
 }
 
+// The first pick of a new policy in a box.
+fn first_pick(alloc: Global, table: &[SbInfo]) -> Result<u16, AllocError>
+    requires { length table.now ≤ 256 }
+    ensures { IfOk result (λ sb. sb ≡ answer_of (first_view kind.Oldest) table.now) }
+{
+    let mut policy: Box<dyn Policy + Send> = Box::new(alloc, Oldest::new())?;
+    Ok(picked(&mut policy, table))
+}
+
 // A pick with its answer, a pick without a candidate, or the erase of a superblock.
 #[derive(Clone, Copy, Debug)]
 enum Step {
@@ -89,6 +100,7 @@ fn the_most_garbage_is_picked(rt: HostRuntime) -> Result<(), Fail> {
 
 #[test]
 fn the_oldest_erase_is_picked(rt: HostRuntime) -> Result<(), Fail> {
+    assert_eq!(rt; first_pick(rt.alloc(), &mixed())?, 0);
     let mut policy: Box<dyn Policy + Send> = Box::new(rt.alloc(), Oldest::new())?;
     let steps = [
         Step::Pick(0),
