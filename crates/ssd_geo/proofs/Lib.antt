@@ -1,5 +1,6 @@
 pub mod AcceptedLayers
 pub mod BitsOfBytes
+pub mod BlockSteps
 pub mod ContentsLaws
 pub mod DecodingBounds
 pub mod FieldLaws

@@ -60,7 +60,7 @@ no_block base past test sb e lt =
     (none_found test (blocks_of base past) sb Blocks.blank_block e (omega (arith, length-map-range_with_len (block_of base past) 0 base.shape.superblocks)))
 
 -- the superblock that is found in a state is in it
-found_block : (base : ChannelBase) (past : List Entry) (test : BlockBase → Bool) (sb : ℕ) → position test (blocks_of base past) ≡ Some sb → (sb < base.shape.superblocks) × (test (block_of base past sb) ≡ true)
+pub found_block : (base : ChannelBase) (past : List Entry) (test : BlockBase → Bool) (sb : ℕ) → position test (blocks_of base past) ≡ Some sb → (sb < base.shape.superblocks) × (test (block_of base past sb) ≡ true)
 found_block base past test sb e =
     let parts : (sb < length (blocks_of base past)) × (test (Blocks.block_at (blocks_of base past) sb) ≡ true) =
     (first_part test (blocks_of base past) sb e, (position-Some test (blocks_of base past) sb Blocks.blank_block e).1) in

@@ -21,7 +21,7 @@ use Rattle.ssd_geo.specs.History.{open_look, open_looks}
 use Rattle.ssd_geo.specs.Ladder.{LadderState}
 use Rattle.ssd_geo.specs.Lawful.{IsLawfulBy, IsLawfulKind, IsLawfulMove, IsLawfulBadCopy}
 use Rattle.ssd_geo.specs.LookLaws.{is_erase_of}
-use Rattle.ssd_geo.specs.PastBlocks.{block_of, blocks_of, is_bad, is_picked, slots_in, state_by, used_of}
+use Rattle.ssd_geo.specs.PastBlocks.{block_of, blocks_of, is_bad, is_picked, slots_in, state_by, state_of, used_of}
 use Rattle.ssd_geo.specs.PastPages.{PageChange, StoredPage, programs, programs_parity, empties, ages, leaves, aged_page, change_by_failed, change_by_program, change_when, page_change, page_of, word_of_page}
 use Rattle.ssd_geo.specs.PinnedPages.{HasDuePages, KeepsPages, KeepsWord, PinnedPagesStay}
 use Rattle.ssd_geo.specs.PlainMap.{past_at}
@@ -73,15 +73,19 @@ freshest_usable blocks sb e =
     (first_holds (States.is_free (Blocks.block_at blocks sb).state) (list_all (Blocks.is_no_fresher (Blocks.block_at blocks sb)) blocks)
     (position-Some (Blocks.is_freshest blocks) blocks sb Blocks.blank_block e).1)
 
-next_sound : (base : ChannelBase) (past : List Entry) (slot : Slot) → next_slot base past ≡ Some slot → has_slot base.shape slot ≡ true → is_bad base past slot.sb ≡ false
-next_sound base past slot next range =
+pub usable_next : (base : ChannelBase) (past : List Entry) (slot : Slot) → next_slot base past ≡ Some slot → has_slot base.shape slot ≡ true
+    → (States.is_frontier (state_of base past slot.sb) || States.is_free (state_of base past slot.sb)) ≡ true
+usable_next base past slot next range =
     let blocks : List BlockBase = blocks_of base past in
     let within : slot.sb < base.shape.superblocks = slot_in_range base.shape slot range in
     let there : Blocks.next_superblock blocks ≡ Some slot.sb = slot_block blocks (Blocks.next_superblock blocks) slot next in
     let usable_there : (States.is_frontier (Blocks.block_at blocks slot.sb).state || States.is_free (Blocks.block_at blocks slot.sb).state) ≡ true =
-    chosen (IsUsable blocks) (Blocks.frontier_of blocks) (Blocks.freshest_of blocks) (frontier_usable blocks) (freshest_usable blocks) slot.sb there in
-    usable_is_sound (is_bad base past slot.sb) (is_picked base past slot.sb) (slots_in base) (used_of base past slot.sb)
-    (subst (λ (block : BlockBase). (States.is_frontier block.state || States.is_free block.state) ≡ true) (block_is base past slot.sb within) usable_there)
+        chosen (IsUsable blocks) (Blocks.frontier_of blocks) (Blocks.freshest_of blocks) (frontier_usable blocks) (freshest_usable blocks) slot.sb there in
+    subst (λ (block : BlockBase). (States.is_frontier block.state || States.is_free block.state) ≡ true) (block_is base past slot.sb within) usable_there
+
+pub next_sound : (base : ChannelBase) (past : List Entry) (slot : Slot) → next_slot base past ≡ Some slot → has_slot base.shape slot ≡ true → is_bad base past slot.sb ≡ false
+next_sound base past slot next range =
+    usable_is_sound (is_bad base past slot.sb) (is_picked base past slot.sb) (slots_in base) (used_of base past slot.sb) (usable_next base past slot next range)
 
 -- a page that isn't programmed is none that is
 none_is_none : (page : Option StoredPage) → page ≡ None → IsSome page → ⊥
