@@ -104,10 +104,10 @@ programmed_step base past entry slot next range after =
     let usable : (States.is_frontier (state_of base past slot.sb) || States.is_free (state_of base past slot.sb)) ≡ true = usable_next base past slot next range in
     let unpicked : is_picked base past slot.sb ≡ false = usable_unpicked (is_bad base past slot.sb) (is_picked base past slot.sb) (slots_in base) (used_of base past slot.sb) usable in
     let here : if_programmed (is_bad base past slot.sb) (is_picked base past slot.sb) (slots_in base) (erases_of base past slot.sb) (used_of base past slot.sb) (slot.sb == slot.sb)
-        ≡ if_programmed false false (slots_in base) (erases_of base past slot.sb) (used_of base past slot.sb) true =
-        λ i. if_programmed (next_sound base past slot next range i) (unpicked i) (slots_in base) (erases_of base past slot.sb) (used_of base past slot.sb) (itself slot.sb i) in
+    ≡ if_programmed false false (slots_in base) (erases_of base past slot.sb) (used_of base past slot.sb) true =
+    λ i. if_programmed (next_sound base past slot next range i) (unpicked i) (slots_in base) (erases_of base past slot.sb) (used_of base past slot.sb) (itself slot.sb i) in
     let made_it : if_programmed false false (slots_in base) (erases_of base past slot.sb) (used_of base past slot.sb) true ≡ Blocks.with_slot_used (slots_in base) (block_of base past slot.sb) =
-        ap {B = BlockBase} (λ (state : SbState). block state (erases_of base past slot.sb) (used_of base past slot.sb + 1)) (programmed_state (slots_in base) (used_of base past slot.sb)) in
+    ap {B = BlockBase} (λ (state : SbState). block state (erases_of base past slot.sb) (used_of base past slot.sb + 1)) (programmed_state (slots_in base) (used_of base past slot.sb)) in
     one_changed base past entry slot.sb (Blocks.with_slot_used (slots_in base) (Blocks.block_at blocks slot.sb))
     (after slot.sb ∙ here ∙ made_it ∙ sym (ap {B = BlockBase} (Blocks.with_slot_used (slots_in base)) (block_is base past slot.sb within)))
     (λ sb other. after sb ∙ ap {B = BlockBase} (if_programmed (is_bad base past sb) (is_picked base past sb) (slots_in base) (erases_of base past sb) (used_of base past sb)) other)
@@ -123,7 +123,7 @@ bad_now false r picked slots erases used = refl
 
 retired_step : (base : ChannelBase) (past : List Entry) (entry : Entry) (slot : Slot) → next_slot base past ≡ Some slot → has_slot base.shape slot ≡ true
     → ((sb : ℕ) → block_of base (entry ∷ past) sb
-        ≡ if_retired (States.is_bad (block_before base sb).state) (list_any (λ other. turns_bad sb other.kind) past) (is_picked base past sb) (slots_in base) (erases_of base past sb) (used_of base past sb) (slot.sb == sb))
+    ≡ if_retired (States.is_bad (block_before base sb).state) (list_any (λ other. turns_bad sb other.kind) past) (is_picked base past sb) (slots_in base) (erases_of base past sb) (used_of base past sb) (slot.sb == sb))
     → blocks_of base (entry ∷ past) ≡ Blocks.with_retired (blocks_of base past) slot.sb
 retired_step base past entry slot next range after =
     let k : ℕ = slot.sb in
@@ -131,7 +131,7 @@ retired_step base past entry slot next range after =
     let retired : ℕ → Bool → BlockBase = λ sb b. if_retired (States.is_bad (block_before base sb).state) (list_any (λ other. turns_bad sb other.kind) past) (is_picked base past sb) (slots_in base) (erases_of base past sb) (used_of base past sb) b in
     let no_victim : States.is_victim (state_of base past k) ≡ false = usable_no_victim (state_of base past k) (usable_next base past slot next range) in
     let made_it : block SbState.Bad (erases_of base past k) (used_of base past k) ≡ Blocks.retired_block (block_of base past k) =
-        sym (ap {B = BlockBase} (λ (b : Bool). block SbState.Bad (erases_of base past k) (if b then 0 else used_of base past k)) no_victim) in
+    sym (ap {B = BlockBase} (λ (b : Bool). block SbState.Bad (erases_of base past k) (if b then 0 else used_of base past k)) no_victim) in
     one_changed base past entry k (Blocks.retired_block (Blocks.block_at (blocks_of base past) k))
     (after k ∙ ap {B = BlockBase} (retired k) (itself k)
     ∙ bad_now (States.is_bad (block_before base k).state) (list_any (λ other. turns_bad k other.kind) past) (is_picked base past k) (slots_in base) (erases_of base past k) (used_of base past k)
@@ -154,7 +154,7 @@ unerased_step base past tag named die fault victim =
     let found : (named < base.shape.superblocks) × (States.is_victim (state_of base past named) ≡ true) = found_block base past Blocks.is_victim_block named victim in
     let after : ℕ → Bool → BlockBase = λ sb b. block (state_by (States.is_bad (block_before base sb).state || (b || list_any (λ other. turns_bad sb other.kind) past)) (is_picked base past sb) (slots_in base) (if b then 0 else used_of base past sb)) (erases_of base past sb) (if b then 0 else used_of base past sb) in
     let made_it : block SbState.Bad (erases_of base past named) 0 ≡ Blocks.retired_block (block_of base past named) =
-        sym (ap {B = BlockBase} (λ (b : Bool). block SbState.Bad (erases_of base past named) (if b then 0 else used_of base past named)) found.1) in
+    sym (ap {B = BlockBase} (λ (b : Bool). block SbState.Bad (erases_of base past named) (if b then 0 else used_of base past named)) found.1) in
     one_changed base past entry named (Blocks.retired_block (Blocks.block_at (blocks_of base past) named))
     (ap {B = BlockBase} (after named) (itself named)
     ∙ unerased_bad (States.is_bad (block_before base named).state) (list_any (λ other. turns_bad named other.kind) past) (is_picked base past named) (slots_in base) (erases_of base past named) (used_of base past named)
@@ -166,7 +166,7 @@ picked_step : (base : ChannelBase) (past : List Entry) (tag : Tag) (named : ℕ)
 picked_step base past tag named lt sound =
     let after : ℕ → Bool → BlockBase = λ sb b. block (state_by (is_bad base past sb) (if b then true else is_picked base past sb) (slots_in base) (used_of base past sb)) (erases_of base past sb) (used_of base past sb) in
     let made_it : after named true ≡ Blocks.victim_block (block_of base past named) =
-        ap {B = BlockBase} (λ (bad : Bool). block (state_by bad true (slots_in base) (used_of base past named)) (erases_of base past named) (used_of base past named)) sound in
+    ap {B = BlockBase} (λ (bad : Bool). block (state_by bad true (slots_in base) (used_of base past named)) (erases_of base past named) (used_of base past named)) sound in
     one_changed base past (made tag (Kind.Pick named)) named (Blocks.victim_block (Blocks.block_at (blocks_of base past) named))
     (ap {B = BlockBase} (after named) (itself named) ∙ made_it ∙ sym (ap {B = BlockBase} Blocks.victim_block (block_is base past named lt)))
     (λ sb other. ap {B = BlockBase} (after sb) other)
@@ -185,7 +185,7 @@ erased_step base past tag named victim =
     let sound : is_bad base past named ≡ false = victim_sound (is_bad base past named) (is_picked base past named) (slots_in base) (used_of base past named) found.1 in
     let after : ℕ → ℕ → Bool → BlockBase = λ sb erases b. block (state_by (is_bad base past sb) (if b then false else is_picked base past sb) (slots_in base) (if b then 0 else used_of base past sb)) erases (if b then 0 else used_of base past sb) in
     let made_it : after named (erases_of base past named + 1) true ≡ Blocks.erased_block (block_of base past named) =
-        ap {B = BlockBase} (λ (bad : Bool). block (state_by bad false (slots_in base) 0) (erases_of base past named + 1) 0) sound in
+    ap {B = BlockBase} (λ (bad : Bool). block (state_by bad false (slots_in base) 0) (erases_of base past named + 1) 0) sound in
     one_changed base past entry named (Blocks.erased_block (Blocks.block_at (blocks_of base past) named))
     ((λ i. after named (one_more_erase base past entry named (itself named) i) (itself named i))
     ∙ made_it ∙ sym (ap {B = BlockBase} Blocks.erased_block (block_is base past named found.0)))
@@ -200,12 +200,12 @@ candidate_sound : (base : ChannelBase) (past : List Entry) (sb : ℕ) → sb < b
 candidate_sound base past sb lt e =
     let blocks : List BlockBase = blocks_of base past in
     let info : get_or (table_of base past) sb Policies.no_info ≡ Policies.info_of (slots_in base) blocks (rows_of base past) (open_looks past) sb =
-        get_or-map-range_with_len (Policies.info_of (slots_in base) blocks (rows_of base past) (open_looks past)) 0 (length blocks) sb sb Policies.no_info
-        (omega (arith, length-map-range_with_len (block_of base past) 0 base.shape.superblocks)) (omega arith) in
+    get_or-map-range_with_len (Policies.info_of (slots_in base) blocks (rows_of base past) (open_looks past)) 0 (length blocks) sb sb Policies.no_info
+    (omega (arith, length-map-range_with_len (block_of base past) 0 base.shape.superblocks)) (omega arith) in
     let candidate : Policies.is_candidate (Policies.info_of (slots_in base) blocks (rows_of base past) (open_looks past) sb) ≡ true =
-        subst (λ (info : SbInfo). Policies.is_candidate info ≡ true) info e in
+    subst (λ (info : SbInfo). Policies.is_candidate info ≡ true) info e in
     let sealed : States.is_sealed (Blocks.block_at blocks sb).state ≡ true =
-        first_holds (States.is_sealed (Blocks.block_at blocks sb).state) (nat_lt (live_in (rows_of base past) sb) (slots_in base)) candidate in
+    first_holds (States.is_sealed (Blocks.block_at blocks sb).state) (nat_lt (live_in (rows_of base past) sb) (slots_in base)) candidate in
     sealed_sound (is_bad base past sb) (is_picked base past sb) (slots_in base) (used_of base past sb)
     (subst (λ (block : BlockBase). States.is_sealed block.state ≡ true) (block_is base past sb lt) sealed)
 

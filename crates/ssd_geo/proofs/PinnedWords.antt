@@ -80,7 +80,7 @@ usable_next base past slot next range =
     let within : slot.sb < base.shape.superblocks = slot_in_range base.shape slot range in
     let there : Blocks.next_superblock blocks ≡ Some slot.sb = slot_block blocks (Blocks.next_superblock blocks) slot next in
     let usable_there : (States.is_frontier (Blocks.block_at blocks slot.sb).state || States.is_free (Blocks.block_at blocks slot.sb).state) ≡ true =
-        chosen (IsUsable blocks) (Blocks.frontier_of blocks) (Blocks.freshest_of blocks) (frontier_usable blocks) (freshest_usable blocks) slot.sb there in
+    chosen (IsUsable blocks) (Blocks.frontier_of blocks) (Blocks.freshest_of blocks) (frontier_usable blocks) (freshest_usable blocks) slot.sb there in
     subst (λ (block : BlockBase). (States.is_frontier block.state || States.is_free block.state) ≡ true) (block_is base past slot.sb within) usable_there
 
 pub next_sound : (base : ChannelBase) (past : List Entry) (slot : Slot) → next_slot base past ≡ Some slot → has_slot base.shape slot ≡ true → is_bad base past slot.sb ≡ false

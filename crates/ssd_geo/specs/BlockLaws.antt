@@ -44,4 +44,4 @@ blocks_after slots kind blocks = blocks
 abbrev pub BlocksAfterEntry : Type 0
 BlocksAfterEntry =
     (ladder : List Entry → ℕ → LadderState) (base : ChannelBase) (entry : Entry) (past : List Entry) →
-        IsLawfulBy ladder base (entry ∷ past) → blocks_of base (entry ∷ past) ≡ blocks_after (slots_in base) entry.kind (blocks_of base past)
+    IsLawfulBy ladder base (entry ∷ past) → blocks_of base (entry ∷ past) ≡ blocks_after (slots_in base) entry.kind (blocks_of base past)
