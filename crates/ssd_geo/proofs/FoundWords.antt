@@ -13,7 +13,7 @@ use Rattle.ssd_geo.specs.Layer.{variables_of}
 use Rattle.ssd_geo.specs.RowRule.{is_negative, row_rule}
 use Rattle.ssd_geo.proofs.BitsOfBytes.{bits_of-bytes_of}
 
-length-placed : (xs : List ℤ) (places : List ℕ) (ys : List ℤ) → length (placed xs places ys) ≡ length xs
+pub length-placed : (xs : List ℤ) (places : List ℕ) (ys : List ℤ) → length (placed xs places ys) ≡ length xs
 length-placed xs [] ys = refl
 length-placed xs (i ∷ places) [] = refl
 length-placed xs (i ∷ places) (y ∷ ys) = length-placed (set xs i y) places ys ∙ length-set xs i y
@@ -24,7 +24,7 @@ length-row layer z t s =
     let given = given_of (picked s.0 (variables_of layer z t)) (picked s.1 (edges_of (length layer) z t)) in
     length-placed s.0 (variables_of layer z t) (sums_of given (row_rule given))
 
-length-rows : (layer : List (ℕ × ℕ)) (z n : ℕ) (s : List ℤ × List ℤ) → length (rows_worked layer z n s).0 ≡ length s.0
+pub length-rows : (layer : List (ℕ × ℕ)) (z n : ℕ) (s : List ℤ × List ℤ) → length (rows_worked layer z n s).0 ≡ length s.0
 length-rows layer z zero s = refl
 length-rows layer z (suc n) s = length-row layer z n (rows_worked layer z n s) ∙ length-rows layer z n s
 

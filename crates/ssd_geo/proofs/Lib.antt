@@ -1,4 +1,5 @@
 pub mod AcceptedLayers
+pub mod ApartRows
 pub mod BitsOfBytes
 pub mod BlockSteps
 pub mod ContentsLaws
@@ -26,4 +27,5 @@ pub mod StripeLists
 pub mod Stripes
 pub mod TextLaws
 pub mod UsedSlots
+pub mod WorkedRows
 pub mod WordSums
