@@ -18,7 +18,7 @@ none-is : {X : Type 0} (o : Option X) → is_none o ≡ true → o ≡ None
 none-is None h = refl
 none-is (Some x) h = absurd (let e : false ≡ true = h in cc)
 
-none-mapped : {X Y : Type 0} (f : X → Y) (o : Option X) → option_map f o ≡ None → o ≡ None
+pub none-mapped : {X Y : Type 0} (f : X → Y) (o : Option X) → option_map f o ≡ None → o ≡ None
 none-mapped f None h = refl
 none-mapped f (Some x) h = absurd (let e : Some (f x) ≡ None = h in cc)
 

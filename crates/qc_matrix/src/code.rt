@@ -1,5 +1,7 @@
-ghost use Rattle.std.specs.Prelude.{◌≡◌, ◌*◌, ◌<◌, ◌≤◌, ℕ, IfErr, IfOk, length};
-ghost use Rattle.ssd_geo.specs.BaseMatrix.{BaseMatrix, IsAccepted, first_fault, layer_of};
+ghost use Rattle.std.specs.Prelude.{◌≡◌, ◌*◌, ◌<◌, ◌≤◌, ℕ, IfErr, IfOk, length, pos};
+ghost use Rattle.ssd_geo.specs.BaseMatrix.{BaseMatrix, IsAccepted, first_fault, layer_of, parity_entry};
+ghost use Rattle.ssd_geo.specs.Codewords.{shift_of};
+ghost use Rattle.std.specs.Ordering.{int_eq};
 ghost use Rattle.qc_matrix.specs.Fault.{IsFirstFault};
 
 use super::entries::Entries;
@@ -93,6 +95,25 @@ impl Code {
         ensures accepted { IsAccepted self.now }
     {
         self.nb
+    }
+
+    /// The shift of the first and of the last base row in the first parity column.
+    pub fn parity_shift(&self) -> u16
+        ensures { result ≡ shift_of (parity_entry self.now 0) }
+    {
+        let entry = self.entries[(self.nb - self.mb) as usize];
+        if entry < 0 {
+            return 0;
+        }
+        entry as u16
+    }
+
+    /// Whether base row `i` has shift 0 in the first parity column, as the one middle row has.
+    pub fn has_zero_shift(&self, i: u8) -> bool
+        requires { i < self.now.mb }
+        ensures { result ≡ int_eq (parity_entry self.now i) (pos 0) }
+    {
+        self.entries[i as usize * self.nb as usize + (self.nb - self.mb) as usize] == 0
     }
 
     /// The blocks of base row `i`, each a column and a shift, in rising columns.

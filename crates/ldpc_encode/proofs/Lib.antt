@@ -1,0 +1,12 @@
+pub mod Sums
+pub mod Blocks
+pub mod Chain
+pub mod Rows
+pub mod Bools
+pub mod Solved
+pub mod Bytes
+pub mod TheWord
+pub mod Steps
+pub mod LowBlocks
+pub mod Made
+pub mod Encoded
