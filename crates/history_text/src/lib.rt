@@ -12,3 +12,6 @@ mod summary;
 mod word;
 
 pub use run::print_run;
+
+#[cfg(test)]
+mod tests;
