@@ -21,7 +21,7 @@ use Rattle.ssd_geo.proofs.FieldLaws.{goes_on, passes, field_again, number_again_
 use Rattle.ssd_geo.proofs.HeadLaws.{read_at, same_reading, both_of, below_is, within_is, levels_again, head_is_read}
 
 -- a test of equality that passed
-equal_is : (m n : ℕ) → (m == n) ≡ true → m ≡ n
+pub equal_is : (m n : ℕ) → (m == n) ≡ true → m ≡ n
 equal_is m n e = grind (arith, common_steps)
 
 no_length : (n : ℕ) → (suc n == 0) ≡ true → ⊥

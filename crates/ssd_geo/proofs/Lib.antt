@@ -22,6 +22,7 @@ pub mod RewrittenRows
 pub mod RoundExamples
 pub mod SenseValues
 pub mod Sizes
+pub mod SpelledContents
 pub mod SpelledHeads
 pub mod StripeLists
 pub mod Stripes

@@ -13,15 +13,15 @@ use Rattle.ssd_geo.specs.declared.weak.Weak.{Weak}
 use Rattle.std.proofs.lemmas.List.{length-append, append_assoc, append-nil, length-take-le}
 use Rattle.ssd_geo.proofs.HeadLaws.{both_of}
 
-abbrev is_read : {A F : Type 0} → Result A F → Bool
+abbrev pub is_read : {A F : Type 0} → Result A F → Bool
 is_read (Ok x) = true
 is_read (Err fault) = false
 
-abbrev value_else : {A F : Type 0} → A → Result A F → A
+abbrev pub value_else : {A F : Type 0} → A → Result A F → A
 value_else other (Ok x) = x
 value_else other (Err fault) = other
 
-never : false ≡ true → ⊥
+pub never : false ≡ true → ⊥
 never e = grind (arith, common_steps)
 
 -- goes on only after a value
@@ -42,7 +42,7 @@ abbrev pub after : ℕ → Rest → Rest
 after n rest = record { place = rest.place + n; bytes = drop n rest.bytes }
 
 -- a field whose value passed a test: the value is that of its bytes
-passed : {A : Type 0} (fault : Fault) (n : ℕ) (test : A → Bool) (value : List ℕ → A) (rest : Rest) (x : A × Rest) →
+pub passed : {A : Type 0} (fault : Fault) (n : ℕ) (test : A → Bool) (value : List ℕ → A) (rest : Rest) (x : A × Rest) →
     field_or fault n (λ bytes. passing test (value bytes)) rest ≡ Ok x → (test x.0 ≡ true) × (x.0 ≡ value (take n rest.bytes)) × (x.1 ≡ after n rest)
 passed fault n test value rest x e =
     let step = went_on (bytes_field n rest) (λ field. found_or (passing test (value field.0)) fault field.1) x e in
@@ -51,7 +51,7 @@ passed fault n test value rest x e =
     let value_is : value step.0.0 ≡ x.0 = ap (λ p. p.0) found.1 in
     (ap test (sym value_is) ∙ found.0, sym value_is ∙ ap (λ p. value p.0) (sym field), sym (ap (λ p. p.1) found.1) ∙ ap (λ p. p.1) (sym field))
 
-are_taken : (n : ℕ) (bytes : List ℕ) → are_bytes bytes ≡ true → are_bytes (take n bytes) ≡ true
+pub are_taken : (n : ℕ) (bytes : List ℕ) → are_bytes bytes ≡ true → are_bytes (take n bytes) ≡ true
 are_taken zero bytes e = refl
 are_taken (suc n) [] e = refl
 are_taken (suc n) (b ∷ bytes) e =
@@ -62,26 +62,26 @@ are_left zero bytes e = e
 are_left (suc n) [] e = refl
 are_left (suc n) (b ∷ bytes) e = are_left n bytes (both_of (nat_lt b 256) (are_bytes bytes) e).1
 
-small_at : (bytes : List ℕ) → are_bytes bytes ≡ true → (i : ℕ) → get_or bytes i 0 < 256
+pub small_at : (bytes : List ℕ) → are_bytes bytes ≡ true → (i : ℕ) → get_or bytes i 0 < 256
 small_at [] e i = omega arith
 small_at (b ∷ bytes) e zero =
     let both = both_of (nat_lt b 256) (are_bytes bytes) e in grind (arith, common_steps)
 small_at (b ∷ bytes) e (suc i) = small_at bytes (both_of (nat_lt b 256) (are_bytes bytes) e).1 i
 
 -- the bytes that are left are bytes
-still_bytes : (n : ℕ) (rest left : Rest) → are_bytes rest.bytes ≡ true → left ≡ after n rest → are_bytes left.bytes ≡ true
+pub still_bytes : (n : ℕ) (rest left : Rest) → are_bytes rest.bytes ≡ true → left ≡ after n rest → are_bytes left.bytes ≡ true
 still_bytes n rest left e same = ap (λ r. are_bytes r.bytes) same ∙ are_left n rest.bytes e
 
 number_16_small : (bytes : List ℕ) → ((i : ℕ) → get_or bytes i 0 < 256) → from_le_bytes w16 bytes < 2 ^ 16
 number_16_small bytes h = omega (arith, h 0, h 1)
 
-number_32_small : (bytes : List ℕ) → ((i : ℕ) → get_or bytes i 0 < 256) → from_le_bytes w32 bytes < 2 ^ 32
+pub number_32_small : (bytes : List ℕ) → ((i : ℕ) → get_or bytes i 0 < 256) → from_le_bytes w32 bytes < 2 ^ 32
 number_32_small bytes h = omega (arith, h 0, h 1, h 2, h 3)
 
 number_64_small : (bytes : List ℕ) → ((i : ℕ) → get_or bytes i 0 < 256) → from_le_bytes w64 bytes < 2 ^ 64
 number_64_small bytes h = omega (arith, h 0, h 1, h 2, h 3, h 4, h 5, h 6, h 7)
 
-below_if : (n bound : ℕ) → n < bound → is_below bound n ≡ true
+pub below_if : (n bound : ℕ) → n < bound → is_below bound n ≡ true
 below_if n bound h = grind (arith, common_steps)
 
 -- the fields of fixed places are in range
@@ -105,7 +105,7 @@ pub record IsFixed (f : Fixed) : Type 0 where
   step : is_within 1 2047 f.step ≡ true
 
 -- What follows from a whole reading, once it follows from a field that was read and from the reading of what is left.
-on_field : {A B : Type 0} (R : Type 0) (fault : Fault) (n : ℕ) (test : A → Bool) (value : List ℕ → A) (rest : Rest) (next : A × Rest → Reading B) (y : B × Rest) → are_bytes rest.bytes ≡ true →
+pub on_field : {A B : Type 0} (R : Type 0) (fault : Fault) (n : ℕ) (test : A → Bool) (value : List ℕ → A) (rest : Rest) (next : A × Rest → Reading B) (y : B × Rest) → are_bytes rest.bytes ≡ true →
     (field_or fault n (λ bytes. passing test (value bytes)) rest >>= next) ≡ Ok y →
     ((x : A × Rest) → test x.0 ≡ true → x.0 ≡ value (take n rest.bytes) → are_bytes x.1.bytes ≡ true → next x ≡ Ok y → R) → R
 on_field R fault n test value rest next y are e follows =
@@ -207,29 +207,29 @@ fixed_is rest x are e =
     }) r17))))))))))))))))))
 
 -- What follows from a whole reading, once it follows from a first part and the reading of what is left.
-on_part : {A B : Type 0} (R : Type 0) (read : Reading A) (next : A × Rest → Reading B) (y : B × Rest) → (read >>= next) ≡ Ok y →
+pub on_part : {A B : Type 0} (R : Type 0) (read : Reading A) (next : A × Rest → Reading B) (y : B × Rest) → (read >>= next) ≡ Ok y →
     ((x : A × Rest) → read ≡ Ok x → next x ≡ Ok y → R) → R
 on_part R read next y e follows = let step = went_on read next y e in follows step.0 step.1 step.2
 
-abbrev reading_of : {A : Type 0} → A × Rest → Reading A
+abbrev pub reading_of : {A : Type 0} → A × Rest → Reading A
 reading_of x = Ok x
 
 chosen_ok : {A : Type 0} (b : Bool) (fault : Fault) (y x : A × Rest) → (if b then Ok y else Err fault) ≡ reading_of x → (b ≡ true) × (y ≡ x)
 chosen_ok true fault y x e = (refl, ap (value_else x) e)
 chosen_ok false fault y x e = absurd (never (ap is_read e))
 
-all_snoc : {A : Type 0} (test : A → Bool) (xs : List A) (y : A) → list_all test xs ≡ true → test y ≡ true → list_all test (xs ++ y ∷ []) ≡ true
+pub all_snoc : {A : Type 0} (test : A → Bool) (xs : List A) (y : A) → list_all test xs ≡ true → test y ≡ true → list_all test (xs ++ y ∷ []) ≡ true
 all_snoc test [] y e f = rw f refl
 all_snoc test (x ∷ xs) y e f =
     let both = both_of (test x) (list_all test xs) e in rw (both.0, all_snoc test xs y both.1 f) refl
 
 -- so many more were read, each passes a test, and bytes are left
-record AreMore {A : Type 0} (test : A → Bool) (n : ℕ) (before : List A) (x : List A × Rest) : Type 0 where
-  pass : list_all test x.0 ≡ true
-  count : length x.0 ≡ length before + n
-  left : are_bytes x.1.bytes ≡ true
+pub record AreMore {A : Type 0} (test : A → Bool) (n : ℕ) (before : List A) (x : List A × Rest) : Type 0 where
+  pub pass : list_all test x.0 ≡ true
+  pub count : length x.0 ≡ length before + n
+  pub left : are_bytes x.1.bytes ≡ true
 
-levels_are : (n : ℕ) (before : List ℤ) (rest : Rest) (x : List ℤ × Rest) → are_bytes rest.bytes ≡ true → list_all is_level before ≡ true → level_fields n before rest ≡ Ok x → AreMore is_level n before x
+pub levels_are : (n : ℕ) (before : List ℤ) (rest : Rest) (x : List ℤ × Rest) → are_bytes rest.bytes ≡ true → list_all is_level before ≡ true → level_fields n before rest ≡ Ok x → AreMore is_level n before x
 unfolding level_fields
 levels_are zero before rest x are pass e =
     let same : (before, rest) ≡ x = ap (value_else x) e in
@@ -267,7 +267,7 @@ whole_length : (b : Bool) (n k : ℕ) (fault : Fault) (y x : List ℕ × Rest) �
 whole_length true n k fault y x t e = absurd (never (ap is_read e))
 whole_length false n k fault y x t e = (grind (arith, common_steps), ap (value_else x) e)
 
-whole_field : (n : ℕ) (rest : Rest) (x : List ℕ × Rest) → bytes_field n rest ≡ Ok x → (length x.0 ≡ n) × (x.1 ≡ after n rest)
+pub whole_field : (n : ℕ) (rest : Rest) (x : List ℕ × Rest) → bytes_field n rest ≡ Ok x → (length x.0 ≡ n) × (x.1 ≡ after n rest)
 whole_field n rest x e =
     let parts = whole_length (nat_lt (length rest.bytes) n) n (length rest.bytes) (rest.place + length rest.bytes, short) (take n rest.bytes, after n rest) x refl e in
     (ap (λ p. length p.0) (sym parts.1) ∙ length-take-le n rest.bytes parts.0, ap (λ p. p.1) (sym parts.1))

@@ -8,7 +8,7 @@ use Rattle.std.specs.Option.{option_map_or}
 use Rattle.std.specs.Int.{w8, w16, w32, w64, to_le_bytes, from_le_bytes}
 use Rattle.ssd_geo.specs.Blocks.{block_at, has_due_used, is_frontier_block, is_victim_block}
 use Rattle.ssd_geo.specs.Codewords.{failed_checks}
-use Rattle.ssd_geo.specs.Fields.{Rest, Fault, Reading, ◌>>=◌, field_or, number_or, number_field, passing, bytes_of_signed, is_any, is_within, is_below, is_level, level_fields}
+use Rattle.ssd_geo.specs.Fields.{are_bytes, Rest, Fault, Reading, ◌>>=◌, field_or, number_or, number_field, passing, bytes_of_signed, is_any, is_within, is_below, is_level, level_fields}
 use Rattle.ssd_geo.specs.ImageHead.{IsHead, Sizes, Head, sizes_of, head_bytes, matrix_of, read_head}
 use Rattle.ssd_geo.specs.InputFaults as faults
 use Rattle.ssd_geo.specs.PageMap.{names_slot}
@@ -373,3 +373,9 @@ ImageIsRead =
     length channels ≡ head.sizes.channels → AreSaved head [] channels →
     read_image (image_bytes head channels ++ more)
     ≡ Ok ((head, channels), record { place = length (image_bytes head channels); bytes = more })
+
+-- contents that were read from bytes have a spelling
+abbrev pub ContentsHaveSpelling : Type 0
+ContentsHaveSpelling =
+    (head : Head) (channel : ℕ) (rest left : Rest) (saved : Saved) → IsTrue (are_bytes rest.bytes) →
+    channel_fields head channel rest ≡ Ok (saved, left) → IsSaved head channel saved

@@ -1,5 +1,5 @@
 //! What images and their bytes are to one another.
-ghost use Rattle.ssd_geo.specs.ImageContents.{ContentsAreRead, ImageIsRead};
+ghost use Rattle.ssd_geo.specs.ImageContents.{ContentsAreRead, ContentsHaveSpelling, ImageIsRead};
 ghost use Rattle.ssd_geo.specs.ImageHead.{HeadHasSpelling, HeadIsRead};
 
 /// A head that was written is read again, whatever follows.
@@ -20,4 +20,9 @@ pub fn images_are_read()
 /// A head that was read from bytes has a spelling, so that it is read again from what is written of it.
 pub fn read_heads_have_spellings()
     ensures { HeadHasSpelling }
+{}
+
+/// Contents of a channel that were read from bytes have a spelling.
+pub fn read_contents_have_spellings()
+    ensures { ContentsHaveSpelling }
 {}

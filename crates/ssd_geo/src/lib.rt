@@ -91,6 +91,7 @@ pub use image_examples::example_short_images;
 pub use image_laws::contents_are_read;
 pub use image_laws::heads_are_read;
 pub use image_laws::images_are_read;
+pub use image_laws::read_contents_have_spellings;
 pub use image_laws::read_heads_have_spellings;
 pub use items::Items;
 pub use kind::Kind;
