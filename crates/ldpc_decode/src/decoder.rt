@@ -64,7 +64,7 @@ impl Decoder {
         &self.code
     }
 
-    /// Decodes log-likelihood values, one for each bit of a word: above 0 for a bit 0, below 0 for a bit 1.
+    /// Decodes log-likelihood values, one for each bit of a word: one below 0 speaks for a 1, any other for a 0.
     pub fn decode(&mut self, values: &[i8], word: &mut [u8]) -> Outcome
         requires values_len { length values.now ≡ word_bits self.old.code }
         requires values_within { All (IsWithin 127) values.now }
