@@ -196,20 +196,23 @@ sealed_sound : (bad picked : Bool) (slots used : ℕ) → States.is_sealed (stat
 sealed_sound true picked slots used e = absurd (grind arith)
 sealed_sound false picked slots used e = refl
 
-candidate_sound : (base : ChannelBase) (past : List Entry) (sb : ℕ) → sb < base.shape.superblocks → has_garbage base past sb ≡ true → is_bad base past sb ≡ false
-candidate_sound base past sb lt e =
+pub candidate_sealed : (base : ChannelBase) (past : List Entry) (sb : ℕ) → sb < base.shape.superblocks → has_garbage base past sb ≡ true
+    → States.is_sealed (Blocks.block_at (blocks_of base past) sb).state ≡ true
+candidate_sealed base past sb lt e =
     let blocks : List BlockBase = blocks_of base past in
     let info : get_or (table_of base past) sb Policies.no_info ≡ Policies.info_of (slots_in base) blocks (rows_of base past) (open_looks past) sb =
-    get_or-map-range_with_len (Policies.info_of (slots_in base) blocks (rows_of base past) (open_looks past)) 0 (length blocks) sb sb Policies.no_info
-    (omega (arith, length-map-range_with_len (block_of base past) 0 base.shape.superblocks)) (omega arith) in
+        get_or-map-range_with_len (Policies.info_of (slots_in base) blocks (rows_of base past) (open_looks past)) 0 (length blocks) sb sb Policies.no_info
+        (omega (arith, length-map-range_with_len (block_of base past) 0 base.shape.superblocks)) (omega arith) in
     let candidate : Policies.is_candidate (Policies.info_of (slots_in base) blocks (rows_of base past) (open_looks past) sb) ≡ true =
-    subst (λ (info : SbInfo). Policies.is_candidate info ≡ true) info e in
-    let sealed : States.is_sealed (Blocks.block_at blocks sb).state ≡ true =
-    first_holds (States.is_sealed (Blocks.block_at blocks sb).state) (nat_lt (live_in (rows_of base past) sb) (slots_in base)) candidate in
-    sealed_sound (is_bad base past sb) (is_picked base past sb) (slots_in base) (used_of base past sb)
-    (subst (λ (block : BlockBase). States.is_sealed block.state ≡ true) (block_is base past sb lt) sealed)
+        subst (λ (info : SbInfo). Policies.is_candidate info ≡ true) info e in
+    first_holds (States.is_sealed (Blocks.block_at blocks sb).state) (nat_lt (live_in (rows_of base past) sb) (slots_in base)) candidate
 
-below : (a b : ℕ) → nat_lt a b ≡ true → a < b
+candidate_sound : (base : ChannelBase) (past : List Entry) (sb : ℕ) → sb < base.shape.superblocks → has_garbage base past sb ≡ true → is_bad base past sb ≡ false
+candidate_sound base past sb lt e =
+    sealed_sound (is_bad base past sb) (is_picked base past sb) (slots_in base) (used_of base past sb)
+    (subst (λ (block : BlockBase). States.is_sealed block.state ≡ true) (block_is base past sb lt) (candidate_sealed base past sb lt e))
+
+pub below : (a b : ℕ) → nat_lt a b ≡ true → a < b
 below a b e = grind (arith, nat_tests)
 
 blocks_step : (state : ℕ → LadderState) (base : ChannelBase) (past : List Entry) (tag : Tag) (kind : Kind) → is_in_range base.shape kind ≡ true → IsLawfulKind state base past tag kind

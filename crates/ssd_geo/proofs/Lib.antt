@@ -18,6 +18,7 @@ pub mod OneOfEach
 pub mod OpenLookLaws
 pub mod Payloads
 pub mod PinnedWords
+pub mod ReserveLaws
 pub mod RewrittenRows
 pub mod RoundExamples
 pub mod SenseValues
@@ -28,5 +29,5 @@ pub mod StripeLists
 pub mod Stripes
 pub mod TextLaws
 pub mod UsedSlots
-pub mod WorkedRows
 pub mod WordSums
+pub mod WorkedRows

@@ -1,12 +1,15 @@
 -- The rounds of the worked collections, part by part.
-use Rattle.std.proofs.Common.{◌≡◌, ℕ, List, [], ◌∷◌, ◌++◌, take, drop, refl, inl, inr, get_or, true, false}
+use Rattle.std.proofs.Common.{◌≡◌, ℕ, List, [], ◌∷◌, ◌++◌, take, drop, refl, inl, inr, get_or, true, false, lit<}
 use Rattle.std.proofs.lemmas.List.Elements.{All-nil, All-cons}
-use Rattle.ssd_geo.specs.CallExamples.{IsCollectExample, IsWriteExample, example_ladder, steps_in}
+use Rattle.ssd_geo.specs.CallExamples.{IsCollectExample, IsSerialWriteExample, IsWriteExample, example_ladder, steps_in}
 use Rattle.ssd_geo.specs.CallSteps.{CallStep}
 use Rattle.ssd_geo.specs.Copies.{IsCopy, IsLookList}
-use Rattle.ssd_geo.specs.HistoryExamples.{AreWithinLimits, blank_channel, collected_history, freed_history, step}
+use Rattle.ssd_geo.specs.HistoryExamples.{AreWithinLimits, blank_channel, call_of, collected_history, freed_history, step}
 use Rattle.ssd_geo.specs.Noise.{noise_word}
 use Rattle.ssd_geo.specs.Rounds.{IsRound, IsVictimCopy, IsWritePart, IsLeftRound}
+use Rattle.ssd_geo.specs.History.{past_of}
+use Rattle.ssd_geo.specs.SerialCalls.{IsSerialCopy, erased, erases, goes_on, makes_room, picks, writes}
+use Rattle.ssd_geo.specs.declared.entry.Entry.{Entry}
 use Rattle.ssd_geo.specs.declared.kind.Kind.{Kind}
 
 -- a step of a list
@@ -96,3 +99,22 @@ is_collect within = record {
         is_done = refl;
       });
 }
+
+-- the pasts of the worked collection
+abbrev past_to : ℕ → List Entry
+past_to n = past_of (take n collected_history)
+
+serial_copy : (within : AreWithinLimits) → IsSerialCopy (example_ladder [] within) (blank_channel [] within) (call_of 0 12) (past_to 13) (past_to 17) false false
+serial_copy within = record {
+  steps = take 4 (drop 1 writing);
+  are_steps = (refl, refl, (refl, refl, (refl, refl, (refl, refl, refl))));
+  has_live = lit< tt;
+  is_copy = written_copy within;
+  ends_is = refl;
+  fault_is = refl;
+}
+
+pub is_serial_write : IsSerialWriteExample collected_history 12 12 5
+is_serial_write within =
+    makes_room {between = past_to 18} {end = erased} refl
+    (picks {sb = 0} refl (goes_on {between = past_to 17} (serial_copy within) (erases refl refl))) refl (writes refl)

@@ -1,5 +1,5 @@
 -- Which replies and which views do the worked histories give? The steps of a call are those of its tag.
-use Rattle.std.specs.Prelude.{ℕ, ◌≡◌, List, [], ◌∷◌, Option, Some}
+use Rattle.std.specs.Prelude.{ℕ, ◌≡◌, List, [], take, Some}
 use Rattle.ssd_geo.specs.CallSteps.{CallStep, steps_of}
 use Rattle.ssd_geo.specs.Coding.{Coding}
 use Rattle.ssd_geo.specs.FollowedViews.{FollowsView}
@@ -10,6 +10,7 @@ use Rattle.ssd_geo.specs.PastPages.{ladder_of}
 use Rattle.ssd_geo.specs.Policies.{first_view}
 use Rattle.ssd_geo.specs.Replies.{read_reply, write_reply}
 use Rattle.ssd_geo.specs.Rounds.{IsWrite, IsCollect}
+use Rattle.ssd_geo.specs.SerialCalls.{SerialWrite}
 use Rattle.ssd_geo.specs.declared.entry.Entry.{Entry}
 use Rattle.ssd_geo.specs.declared.policy_view.PolicyKind.{PolicyKind}
 use Rattle.ssd_geo.specs.declared.reply.Reply.{Reply}
@@ -44,3 +45,8 @@ IsWriteExample history call row =
 abbrev pub IsCollectExample : List Entry → ℕ → Type 0
 IsCollectExample history call =
     (within : AreWithinLimits) → IsCollect (example_ladder [] within) (blank_channel [] within) (steps_in history 0 call)
+
+-- a write of a row that is served alone leads from the history of its first entries to all of it
+abbrev pub IsSerialWriteExample : List Entry → ℕ → ℕ → ℕ → Type 0
+IsSerialWriteExample history at call row =
+    (within : AreWithinLimits) → SerialWrite (example_ladder [] within) (blank_channel [] within) (call_of 0 call) row (past_of (take at history)) (past_of history)

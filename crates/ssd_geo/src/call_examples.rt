@@ -1,6 +1,6 @@
 //! What calls of the worked histories answer, and which policies would make their picks.
 ghost use Rattle.std.specs.Prelude.{◌≡◌, []};
-ghost use Rattle.ssd_geo.specs.CallExamples.{IsCollectExample, IsWriteExample, PicksAs, ReadReplies, WriteReplies, steps_in};
+ghost use Rattle.ssd_geo.specs.CallExamples.{IsCollectExample, IsSerialWriteExample, IsWriteExample, PicksAs, ReadReplies, WriteReplies, steps_in};
 ghost use Rattle.ssd_geo.specs.HistoryExamples.{
   collected_history,
   faulted_history,
@@ -44,9 +44,10 @@ pub fn example_picks_followed()
     ensures round_robin { PicksAs RoundRobin collected_history }
 {}
 
-/// The last write of the worked collection is a round and then a write of its row, and the worked collect is a round
-/// that erases.
+/// The last write of the worked collection is a round and then a write of its row, also by the rules for a call that is
+/// served alone; and the worked collect is a round that erases.
 pub fn example_rounds()
     ensures write { IsWriteExample collected_history 12 5 }
+    ensures serial { IsSerialWriteExample collected_history 12 12 5 }
     ensures collect { IsCollectExample freed_history 5 }
 {}

@@ -49,6 +49,7 @@ pub use base::BlockBase;
 pub use base::ChannelBase;
 pub use block_laws::blocks_after_entry;
 pub use block_laws::one_of_each;
+pub use block_laws::reserve_is_not_worn;
 pub use call_examples::collect_replies;
 pub use call_examples::example_picks_followed;
 pub use call_examples::example_rounds;
