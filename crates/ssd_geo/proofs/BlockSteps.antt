@@ -201,10 +201,10 @@ pub candidate_sealed : (base : ChannelBase) (past : List Entry) (sb : ℕ) → s
 candidate_sealed base past sb lt e =
     let blocks : List BlockBase = blocks_of base past in
     let info : get_or (table_of base past) sb Policies.no_info ≡ Policies.info_of (slots_in base) blocks (rows_of base past) (open_looks past) sb =
-        get_or-map-range_with_len (Policies.info_of (slots_in base) blocks (rows_of base past) (open_looks past)) 0 (length blocks) sb sb Policies.no_info
-        (omega (arith, length-map-range_with_len (block_of base past) 0 base.shape.superblocks)) (omega arith) in
+    get_or-map-range_with_len (Policies.info_of (slots_in base) blocks (rows_of base past) (open_looks past)) 0 (length blocks) sb sb Policies.no_info
+    (omega (arith, length-map-range_with_len (block_of base past) 0 base.shape.superblocks)) (omega arith) in
     let candidate : Policies.is_candidate (Policies.info_of (slots_in base) blocks (rows_of base past) (open_looks past) sb) ≡ true =
-        subst (λ (info : SbInfo). Policies.is_candidate info ≡ true) info e in
+    subst (λ (info : SbInfo). Policies.is_candidate info ≡ true) info e in
     first_holds (States.is_sealed (Blocks.block_at blocks sb).state) (nat_lt (live_in (rows_of base past) sb) (slots_in base)) candidate
 
 candidate_sound : (base : ChannelBase) (past : List Entry) (sb : ℕ) → sb < base.shape.superblocks → has_garbage base past sb ≡ true → is_bad base past sb ≡ false

@@ -58,6 +58,6 @@ picks_leave_reserve ladder base tag sb past lawful =
     let sealed : States.is_sealed (Blocks.block_at (blocks_of base past) sb).state ≡ true = candidate_sealed base past sb lt c.is_candidate in
     let after : blocks_of base (entry ∷ past) ≡ Blocks.with_victim (blocks_of base past) sb = blocks_after_entry ladder base entry past lawful in
     let same : count_of_free base (entry ∷ past) ≡ count_of_free base past =
-        ap {B = ℕ} Blocks.count_of_free after
-        ∙ as_many_free (blocks_of base past) sb (omega (arith, length-map-range_with_len (block_of base past) 0 base.shape.superblocks)) sealed in
+    ap {B = ℕ} Blocks.count_of_free after
+    ∙ as_many_free (blocks_of base past) sb (omega (arith, length-map-range_with_len (block_of base past) 0 base.shape.superblocks)) sealed in
     enough (count_of_free base past) (count_of_free base (entry ∷ past)) (fits_into_frontier base (entry ∷ past)) c.has_free same

@@ -42,4 +42,4 @@ ReserveIsNotWorn = (base : ChannelBase) (past : List Entry) → has_reserve base
 abbrev pub PicksLeaveReserve : Type 0
 PicksLeaveReserve =
     (ladder : List Entry → ℕ → LadderState) (base : ChannelBase) (tag : Tag) (sb : ℕ) (past : List Entry) →
-        IsLawfulBy ladder base (record { tag = tag; kind = Kind.Pick sb } ∷ past) → has_reserve base (record { tag = tag; kind = Kind.Pick sb } ∷ past) ≡ true
+    IsLawfulBy ladder base (record { tag = tag; kind = Kind.Pick sb } ∷ past) → has_reserve base (record { tag = tag; kind = Kind.Pick sb } ∷ past) ≡ true
