@@ -1,6 +1,6 @@
 -- The superblocks after one more lawful entry.
-use Rattle.std.proofs.Common.{◌≡◌, ◌≢◌, ℕ, zero, suc, ◌+◌, ◌<◌, ◌≤◌, ◌==◌, nat_lt, not, ◌&&◌, ◌||◌, cond, Bool, true, false, List, [], ◌∷◌, length, map, set, get_or, refl, ap, sym, ◌∙◌, subst, Option, Some, None, arith}
-use Rattle.std.specs.Prelude.{if◌then◌else◌, count_by}
+use Rattle.std.proofs.Common.{◌≡◌, ℕ, zero, suc, ◌+◌, ◌<◌, ◌==◌, nat_lt, ◌&&◌, ◌||◌, cond, Bool, true, false, List, ◌∷◌, length, map, set, get_or, refl, ap, sym, ◌∙◌, subst, Some, arith}
+use Rattle.std.specs.Prelude.{if◌then◌else◌}
 use Rattle.std.specs.List.{list_any, range_with_len}
 use Rattle.std.proofs.lemmas.Bool.Decides.{nat_tests}
 use Rattle.std.proofs.lemmas.List.FromFn.{get_or-map-range_with_len, length-map-range_with_len}
@@ -16,7 +16,7 @@ use Rattle.ssd_geo.specs.BlockLaws.{BlocksAfterEntry, blocks_after}
 use Rattle.ssd_geo.specs.Blocks as Blocks
 use Rattle.ssd_geo.specs.History.{open_look, open_looks}
 use Rattle.ssd_geo.specs.Ladder.{LadderState}
-use Rattle.ssd_geo.specs.Lawful.{IsLawfulBy, IsLawfulKind, IsLawfulMove, IsLawfulBadCopy}
+use Rattle.ssd_geo.specs.Lawful.{IsLawfulKind, IsLawfulMove, IsLawfulBadCopy}
 use Rattle.ssd_geo.specs.PastBlocks.{block_before, block_of, blocks_of, erases_of, is_bad, is_erase_of, is_picked, slots_in, state_by, state_of, turns_bad, used_of}
 use Rattle.ssd_geo.specs.Ranges.{has_slot, is_in_range}
 use Rattle.ssd_geo.specs.PageMap.{live_in}

@@ -1,6 +1,6 @@
 -- In a lawful past no page is programmed where the next slots of a superblock stand, and the next slot's parity.
-use Rattle.std.proofs.Common.{◌≡◌, ◌≢◌, ℕ, zero, suc, ◌+◌, ◌-◌, ◌*◌, ◌/◌, ◌%◌, ◌<◌, ◌≤◌, ◌==◌, nat_lt, ◌&&◌, ◌||◌, not, Bool, true, false, List, [], ◌∷◌, length, refl, ap, sym, ◌∙◌, subst, Option, Some, None, arith}
-use Rattle.std.specs.Prelude.{IsTrue, if◌then◌else◌, option_map}
+use Rattle.std.proofs.Common.{◌≡◌, ◌≢◌, ℕ, ◌+◌, ◌-◌, ◌*◌, ◌/◌, ◌%◌, ◌<◌, ◌≤◌, ◌==◌, nat_lt, ◌&&◌, ◌||◌, Bool, true, false, List, [], ◌∷◌, refl, ap, sym, ◌∙◌, Option, Some, None, arith}
+use Rattle.std.specs.Prelude.{if◌then◌else◌, option_map}
 use Rattle.std.specs.List.{list_any}
 use Rattle.std.proofs.lemmas.Bool.Decides.{nat_tests}
 use Rattle.std.proofs.lemmas.Nat.{div-add-mod'}
@@ -22,7 +22,7 @@ use Rattle.ssd_geo.specs.Ladder.{LadderState}
 use Rattle.ssd_geo.specs.Lawful.{IsLawfulBy, IsLawfulKind, IsLawfulMove}
 use Rattle.ssd_geo.specs.Ranges.{has_slot, is_in_range}
 use Rattle.ssd_geo.specs.Room.{next_slot}
-use Rattle.ssd_geo.specs.Start.{Start, cells_at, image_page}
+use Rattle.ssd_geo.specs.Start.{Start, cells_at}
 use Rattle.ssd_geo.specs.Stripe.{is_last_of_stripe, parity_die, place_of_parity, place_of_slot, stripe_of_index}
 use Rattle.ssd_geo.proofs.FreshSlots.{due_below_parity, due_below_slot, not_parity, same_place, slot_die}
 use Rattle.ssd_geo.proofs.Stripes.{parity_die-lt, places_differ}

@@ -1,18 +1,14 @@
 -- No page is programmed where the next slots of a superblock stand.
-use Rattle.std.proofs.Common.{◌≡◌, ◌≢◌, ℕ, zero, suc, ◌+◌, ◌-◌, ◌*◌, ◌/◌, ◌%◌, ◌<◌, ◌≤◌, ◌==◌, nat_lt, ◌&&◌, ◌||◌, not, Bool, true, false, List, [], ◌∷◌, length, refl, ap, sym, ◌∙◌, subst, Option, Some, None, arith}
-use Rattle.std.specs.Prelude.{IsTrue, if◌then◌else◌, option_map, slice_get, ℤ}
+use Rattle.std.proofs.Common.{◌≡◌, ◌≢◌, ℕ, zero, suc, ◌+◌, ◌-◌, ◌*◌, ◌/◌, ◌%◌, ◌<◌, ◌≤◌, true, subst, arith}
 use Rattle.std.proofs.lemmas.Bool.Decides.{nat_tests}
 use Rattle.std.proofs.lemmas.Nat.{div-add-mod', div-mul-add}
-use Rattle.std.proofs.lemmas.Option.{slice_get_past}
-use Rattle.ssd_geo.specs.declared.base.ChannelBase.{ChannelBase}
 use Rattle.ssd_geo.specs.declared.place.Place.{Place}
-use Rattle.ssd_geo.specs.declared.slot.Slot.{Slot}
 use Rattle.ssd_geo.specs.PageMap.{slot_at}
 use Rattle.ssd_geo.specs.PastPages.{is_place}
-use Rattle.ssd_geo.specs.Stripe.{is_last_of_stripe, parity_die, place_of_parity, place_of_slot, stripe_of_index}
-use Rattle.ssd_geo.specs.StripeLaws.{IsSlot, due_after_one}
-use Rattle.ssd_geo.specs.Superblock.{due_pages, slots_of}
-use Rattle.ssd_geo.proofs.Stripes.{due_pages_step, pages_rise, parity_die-lt, places_differ, slots_have_places}
+use Rattle.ssd_geo.specs.Stripe.{parity_die, place_of_parity, place_of_slot, stripe_of_index}
+use Rattle.ssd_geo.specs.StripeLaws.{IsSlot}
+use Rattle.ssd_geo.specs.Superblock.{due_pages}
+use Rattle.ssd_geo.proofs.Stripes.{due_pages_step, pages_rise, parity_die-lt, slots_have_places}
 
 -- due pages never fall as more slots are used
 due_more : (dies sb used n die : ℕ) → 2 ≤ dies → die < dies → due_pages dies sb used die ≤ due_pages dies sb (used + n) die

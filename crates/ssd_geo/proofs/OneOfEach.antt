@@ -1,7 +1,7 @@
 -- A lawful history has at most one frontier and one victim: the proofs of the laws of specs/BlockLaws.antt.
-use Rattle.std.proofs.Common.{◌≡◌, ◌≢◌, ℕ, zero, suc, ◌+◌, ◌<◌, ◌≤◌, ◌==◌, nat_lt, not, ◌||◌, cond, Bool, true, false, List, [], ◌∷◌, length, map, get_or, refl, ap, sym, ◌∙◌, subst, Option, Some, None, arith, ◌⊎◌, inl, inr, true≢false}
+use Rattle.std.proofs.Common.{◌≡◌, ℕ, zero, suc, ◌+◌, ◌<◌, ◌≤◌, ◌==◌, nat_lt, not, ◌||◌, cond, Bool, true, false, List, [], ◌∷◌, length, get_or, refl, ap, sym, ◌∙◌, subst, Option, Some, None, arith, ◌⊎◌, inl, inr, true≢false}
 use Rattle.std.specs.Prelude.{if◌then◌else◌, position, unwrap_or}
-use Rattle.std.specs.List.{list_any, position_or_len, prefix_len, range_with_len}
+use Rattle.std.specs.List.{list_any, position_or_len, prefix_len}
 use Rattle.std.proofs.lemmas.Bool.Decides.{nat_tests}
 use Rattle.std.proofs.lemmas.List.FromFn.{length-map-range_with_len}
 use Rattle.std.proofs.lemmas.List.Quantifiers.{position-Some}
@@ -16,14 +16,14 @@ use Rattle.ssd_geo.specs.BlockLaws.{AtMostOne, OneFrontier, OneVictim}
 use Rattle.ssd_geo.specs.Blocks as Blocks
 use Rattle.ssd_geo.specs.History.{open_look}
 use Rattle.ssd_geo.specs.Ladder.{LadderState}
-use Rattle.ssd_geo.specs.Lawful.{IsLawfulBy, IsLawfulKind, IsLawfulMove}
+use Rattle.ssd_geo.specs.Lawful.{IsLawfulKind, IsLawfulMove}
 use Rattle.ssd_geo.specs.PastBlocks.{block_before, block_of, blocks_of, is_bad, is_picked, slots_in, state_by, state_of, turns_bad, used_after, used_of}
 use Rattle.ssd_geo.specs.Ranges.{has_slot, is_in_range}
-use Rattle.ssd_geo.specs.Room.{next_slot, victim_of}
+use Rattle.ssd_geo.specs.Room.{next_slot}
 use Rattle.ssd_geo.specs.States as States
 use Rattle.ssd_geo.specs.States.{is_frontier, is_victim}
 use Rattle.ssd_geo.proofs.PinnedWords.{slot_block}
-use Rattle.ssd_geo.proofs.UsedSlots.{block_is, made, of_some, second_holds, slot_in_range}
+use Rattle.ssd_geo.proofs.UsedSlots.{block_is, made, of_some, second_holds}
 
 -- what stands before the first item that passes a test doesn't
 before_first : {X : Type 0} (p : X → Bool) (xs : List X) (i : ℕ) (d : X) → i < prefix_len (λ x. not (p x)) xs → p (get_or xs i d) ≡ false

@@ -1,6 +1,6 @@
 -- What open looks hold fast: the proofs of the laws of specs/LookLaws.antt.
-use Rattle.std.proofs.Common.{◌≡◌, ◌≢◌, ℕ, zero, suc, ◌+◌, ◌<◌, ◌≤◌, ◌==◌, nat_lt, not, ◌&&◌, ◌||◌, cond, Bool, true, false, List, [], ◌∷◌, ◌++◌, length, refl, ap, sym, ◌∙◌, subst, Option, Some, None, arith, All}
-use Rattle.std.specs.Prelude.{IsTrue, IsSomeAnd, count_by, filter, option_map}
+use Rattle.std.proofs.Common.{◌≡◌, ℕ, ◌<◌, ◌≤◌, ◌==◌, nat_lt, cond, Bool, true, false, List, [], ◌∷◌, length, sym, subst, arith, All}
+use Rattle.std.specs.Prelude.{count_by}
 use Rattle.std.proofs.lemmas.Bool.Decides.{nat_tests}
 use Rattle.std.proofs.lemmas.List.Elements.{All-nil, All-cons, All-head, All-tail, All-append}
 use Rattle.std.proofs.lemmas.List.Sums.{sum_by-cons}
@@ -9,12 +9,11 @@ use Rattle.ssd_geo.specs.declared.entry.Entry.{Entry}
 use Rattle.ssd_geo.specs.declared.kind.Kind.{Kind}
 use Rattle.ssd_geo.specs.declared.look.Look.{Look}
 use Rattle.ssd_geo.specs.declared.row.Row.{Row}
-use Rattle.ssd_geo.specs.declared.slot.Slot.{Slot}
 use Rattle.ssd_geo.specs.declared.tag.Tag.{Tag}
-use Rattle.ssd_geo.specs.History.{look_of, looks_after, open_look, open_looks}
+use Rattle.ssd_geo.specs.History.{open_looks}
 use Rattle.ssd_geo.specs.Ladder.{LadderState}
-use Rattle.ssd_geo.specs.Lawful.{IsLawfulBy, IsLawfulKind, IsLawfulMove}
-use Rattle.ssd_geo.specs.LookLaws.{NamesUsed, RowsNameUsed, StandsInUsed, LawfulRowsNameUsed, OpenLooksStand}
+use Rattle.ssd_geo.specs.Lawful.{IsLawfulKind}
+use Rattle.ssd_geo.specs.LookLaws.{NamesUsed, StandsInUsed, LawfulRowsNameUsed, OpenLooksStand}
 use Rattle.ssd_geo.specs.OpenLooks.{began_at, stands_in, without_look}
 use Rattle.ssd_geo.specs.PastBlocks.{used_of}
 use Rattle.ssd_geo.specs.PastRows.{row_of}

@@ -1,10 +1,10 @@
 -- An open look holds the pages of its superblock fast: the proof of the law of specs/PinnedPages.antt.
-use Rattle.std.proofs.Common.{◌≡◌, ◌≢◌, ℕ, zero, suc, ◌+◌, ◌-◌, ◌*◌, ◌/◌, ◌%◌, ◌<◌, ◌≤◌, ◌==◌, nat_lt, ◌&&◌, ◌||◌, Bool, true, false, List, [], ◌∷◌, ◌++◌, length, drop, refl, ap, sym, ◌∙◌, subst, Option, Some, None, arith, All, IsSome}
-use Rattle.std.specs.Prelude.{IsTrue, is_some, if◌then◌else◌, option_map, position}
+use Rattle.std.proofs.Common.{◌≡◌, ℕ, suc, ◌+◌, ◌-◌, ◌*◌, ◌/◌, ◌%◌, ◌<◌, ◌≤◌, ◌==◌, nat_lt, ◌&&◌, ◌||◌, Bool, true, false, List, [], ◌∷◌, length, drop, refl, ap, sym, ◌∙◌, subst, Option, Some, None, arith, All, IsSome}
+use Rattle.std.specs.Prelude.{is_some, option_map}
 use Rattle.std.specs.List.{list_all}
 use Rattle.std.proofs.lemmas.Bool.Decides.{nat_tests}
 use Rattle.std.proofs.lemmas.Nat.{div-add-mod'}
-use Rattle.std.proofs.lemmas.List.Elements.{All-nil, All-cons, All-head, All-tail, All-append}
+use Rattle.std.proofs.lemmas.List.Elements.{All-nil, All-cons, All-append}
 use Rattle.std.proofs.lemmas.List.Quantifiers.{position-Some}
 use Rattle.ssd_geo.specs.declared.base.BlockBase.{BlockBase}
 use Rattle.ssd_geo.specs.declared.base.ChannelBase.{ChannelBase}
@@ -19,17 +19,17 @@ use Rattle.ssd_geo.specs.Blocks as Blocks
 use Rattle.ssd_geo.specs.Coding.{Coding}
 use Rattle.ssd_geo.specs.History.{open_look, open_looks}
 use Rattle.ssd_geo.specs.Ladder.{LadderState}
-use Rattle.ssd_geo.specs.Lawful.{IsLawfulBy, IsLawfulKind, IsLawfulMove, IsLawfulBadCopy}
+use Rattle.ssd_geo.specs.Lawful.{IsLawfulKind, IsLawfulMove, IsLawfulBadCopy}
 use Rattle.ssd_geo.specs.LookLaws.{is_erase_of}
-use Rattle.ssd_geo.specs.PastBlocks.{block_of, blocks_of, is_bad, is_picked, slots_in, state_by, state_of, used_of}
-use Rattle.ssd_geo.specs.PastPages.{PageChange, StoredPage, programs, programs_parity, empties, ages, leaves, aged_page, change_by_failed, change_by_program, change_when, page_change, page_of, word_of_page}
-use Rattle.ssd_geo.specs.PinnedPages.{HasDuePages, KeepsPages, KeepsWord, PinnedPagesStay}
+use Rattle.ssd_geo.specs.PastBlocks.{blocks_of, is_bad, is_picked, slots_in, state_by, state_of, used_of}
+use Rattle.ssd_geo.specs.PastPages.{PageChange, StoredPage, programs, programs_parity, empties, ages, leaves, aged_page, change_by_failed, change_by_program, change_when, page_change, page_of}
+use Rattle.ssd_geo.specs.PinnedPages.{KeepsPages, KeepsWord, PinnedPagesStay}
 use Rattle.ssd_geo.specs.PlainMap.{past_at}
 use Rattle.ssd_geo.specs.Ranges.{has_slot, is_in_range}
 use Rattle.ssd_geo.specs.Room.{next_slot}
 use Rattle.ssd_geo.specs.Start.{Start}
 use Rattle.ssd_geo.specs.States as States
-use Rattle.ssd_geo.specs.Stripe.{is_last_of_stripe, parity_die, place_of_parity, place_of_slot, stripe_of_index}
+use Rattle.ssd_geo.specs.Stripe.{stripe_of_index}
 use Rattle.ssd_geo.proofs.FreshPages.{IsFreshAbove, IsKept, failed_elsewhere, fresh_above, program_elsewhere, two_dies}
 use Rattle.ssd_geo.proofs.OpenLookLaws.{all_left}
 use Rattle.ssd_geo.proofs.RewrittenRows.{all_by_two, erases_spare_looks}

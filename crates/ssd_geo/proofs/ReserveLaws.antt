@@ -1,23 +1,20 @@
 -- The reserve and what is worn: the proofs of the laws of specs/Reserve.antt.
-use Rattle.std.proofs.Common.{◌≡◌, ℕ, suc, ◌+◌, ◌<◌, ◌≤◌, ◌==◌, nat_lt, nat_le, ◌&&◌, ◌||◌, cond, Bool, true, false, List, [], ◌∷◌, length, set, get_or, refl, ap, sym, ◌∙◌, subst, Option, Some, None, arith}
-use Rattle.std.specs.Prelude.{is_none, count_by}
+use Rattle.std.proofs.Common.{◌≡◌, ℕ, ◌<◌, ◌==◌, nat_lt, nat_le, ◌&&◌, ◌||◌, cond, Bool, true, false, List, ◌∷◌, length, refl, ap, ◌∙◌, Option, Some, None, arith}
+use Rattle.std.specs.Prelude.{is_none}
 use Rattle.std.proofs.lemmas.Bool.Decides.{nat_tests}
 use Rattle.std.proofs.lemmas.List.FromFn.{length-map-range_with_len}
 use Rattle.std.proofs.lemmas.List.Sums.{sum_by-set}
 use Rattle.ssd_geo.specs.declared.base.BlockBase.{BlockBase}
-use Rattle.ssd_geo.specs.declared.base.ChannelBase.{ChannelBase}
 use Rattle.ssd_geo.specs.declared.entry.Entry.{Entry}
 use Rattle.ssd_geo.specs.declared.kind.Kind.{Kind}
 use Rattle.ssd_geo.specs.declared.superblock.SbState.{SbState}
-use Rattle.ssd_geo.specs.declared.tag.Tag.{Tag}
 use Rattle.ssd_geo.specs.Blocks as Blocks
 use Rattle.ssd_geo.specs.Lawful.{IsLawfulPick}
-use Rattle.ssd_geo.specs.PastBlocks.{block_of, blocks_of, slots_in, state_of}
+use Rattle.ssd_geo.specs.PastBlocks.{block_of, blocks_of, slots_in}
 use Rattle.ssd_geo.specs.Reserve.{PicksLeaveReserve, ReserveIsNotWorn, fits_into_frontier}
 use Rattle.ssd_geo.specs.Room.{count_of_free, live_of, victim_of}
 use Rattle.ssd_geo.specs.States as States
 use Rattle.ssd_geo.proofs.BlockSteps.{below, blocks_after_entry, candidate_sealed}
-use Rattle.ssd_geo.proofs.UsedSlots.{block_is}
 
 not_worn : (free left : ℕ) (live : ℕ → ℕ) (o : Option ℕ) → (nat_le 1 free || elim o [ Some sb ↦ nat_le (live sb) left | None ↦ false ]) ≡ true
     → (free == 0 && (is_none o || nat_lt left (elim o [ Some sb ↦ live sb | None ↦ 0 ]))) ≡ false

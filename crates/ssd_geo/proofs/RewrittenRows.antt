@@ -1,5 +1,5 @@
 -- The rows of open looks name other slots, once they were written or trimmed.
-use Rattle.std.proofs.Common.{◌≡◌, ◌≢◌, ℕ, zero, suc, ◌+◌, ◌<◌, ◌≤◌, ◌==◌, nat_lt, ◌&&◌, ◌||◌, Bool, true, false, List, [], ◌∷◌, ◌++◌, length, refl, ap, sym, ◌∙◌, subst, Option, Some, None, arith, All}
+use Rattle.std.proofs.Common.{◌≡◌, ◌≢◌, ℕ, suc, ◌<◌, ◌≤◌, ◌==◌, nat_lt, ◌&&◌, ◌||◌, Bool, true, false, List, [], ◌∷◌, length, refl, ap, Option, Some, None, arith, All}
 use Rattle.std.specs.Prelude.{IfSome, IsTrue, IsSomeAnd, cond, count_by, find, option_map}
 use Rattle.std.proofs.lemmas.Bool.Decides.{nat_tests}
 use Rattle.std.proofs.lemmas.List.Elements.{All-nil, All-cons, All-head, All-tail, All-append}
@@ -12,8 +12,8 @@ use Rattle.ssd_geo.specs.declared.slot.Slot.{Slot}
 use Rattle.ssd_geo.specs.declared.tag.Tag.{Tag}
 use Rattle.ssd_geo.specs.History.{is_same_tag, look_by, look_of, open_look, open_looks}
 use Rattle.ssd_geo.specs.Ladder.{LadderState}
-use Rattle.ssd_geo.specs.Lawful.{IsLawfulBy, IsLawfulKind, IsLawfulMove, page_looked_at}
-use Rattle.ssd_geo.specs.LookLaws.{CopiesAreFresh, ErasesSpareLooks, NamesOther, RewrittenRowsDiffer, RowsNameUsed, StandsInUsed, is_erase_of, is_rewrite, is_rewritten}
+use Rattle.ssd_geo.specs.Lawful.{IsLawfulKind, IsLawfulMove, page_looked_at}
+use Rattle.ssd_geo.specs.LookLaws.{CopiesAreFresh, ErasesSpareLooks, NamesOther, RewrittenRowsDiffer, StandsInUsed, is_erase_of, is_rewrite, is_rewritten}
 use Rattle.ssd_geo.specs.OpenLooks.{began_at, look_at, stands_in}
 use Rattle.ssd_geo.specs.PastBlocks.{used_of}
 use Rattle.ssd_geo.specs.PastRows.{row_after, row_of, serial_of}

@@ -1,9 +1,8 @@
 -- The rounds of the worked collections, part by part.
-use Rattle.std.proofs.Common.{◌≡◌, ℕ, List, [], ◌∷◌, ◌++◌, take, drop, refl, inl, inr, get_or, true, false, lit<}
+use Rattle.std.proofs.Common.{ℕ, List, [], ◌∷◌, take, drop, refl, inl, inr, get_or, false, lit<}
 use Rattle.std.proofs.lemmas.List.Elements.{All-nil, All-cons}
 use Rattle.ssd_geo.specs.CallExamples.{IsCollectExample, IsSerialWriteExample, IsWriteExample, example_ladder, steps_in}
 use Rattle.ssd_geo.specs.CallSteps.{CallStep}
-use Rattle.ssd_geo.specs.Copies.{IsCopy, IsLookList}
 use Rattle.ssd_geo.specs.HistoryExamples.{AreWithinLimits, blank_channel, call_of, collected_history, freed_history, step}
 use Rattle.ssd_geo.specs.Noise.{noise_word}
 use Rattle.ssd_geo.specs.Rounds.{IsRound, IsVictimCopy, IsWritePart, IsLeftRound}

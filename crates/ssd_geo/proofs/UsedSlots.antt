@@ -1,9 +1,8 @@
 -- Rows and open looks stand in used slots, and an open look's slot isn't used again.
-use Rattle.std.proofs.Common.{◌≡◌, ◌≢◌, ℕ, zero, suc, ◌+◌, ◌<◌, ◌≤◌, ◌==◌, nat_lt, not, ◌&&◌, ◌||◌, cond, Bool, true, false, List, [], ◌∷◌, ◌++◌, length, map, get_or, refl, ap, sym, ◌∙◌, subst, Option, Some, None, arith, All, ◌⊎◌, inl, inr}
-use Rattle.std.specs.Prelude.{IsTrue, IsSomeAnd, if◌then◌else◌, count_by, sum_by, unwrap_or, option_map, filter}
+use Rattle.std.proofs.Common.{◌≡◌, ℕ, zero, suc, ◌+◌, ◌<◌, ◌≤◌, ◌==◌, nat_lt, ◌&&◌, cond, Bool, true, false, List, ◌∷◌, map, refl, ap, sym, ◌∙◌, Option, Some, None, arith}
+use Rattle.std.specs.Prelude.{IsSomeAnd, if◌then◌else◌, count_by, unwrap_or, option_map}
 use Rattle.std.specs.List.{range_with_len}
 use Rattle.std.proofs.lemmas.Bool.Decides.{nat_tests}
-use Rattle.std.proofs.lemmas.List.Elements.{All-nil, All-cons, All-head, All-tail, All-append, All-filter}
 use Rattle.std.proofs.lemmas.List.FromFn.{get_or-map-range_with_len}
 use Rattle.std.proofs.lemmas.List.Sums.{sum_by-cons}
 use Rattle.ssd_geo.specs.declared.base.BlockBase.{BlockBase}
@@ -17,8 +16,8 @@ use Rattle.ssd_geo.specs.declared.tag.Tag.{Tag}
 use Rattle.ssd_geo.specs.Blocks as Blocks
 use Rattle.ssd_geo.specs.History.{look_of, open_look}
 use Rattle.ssd_geo.specs.Ladder.{LadderState}
-use Rattle.ssd_geo.specs.Lawful.{IsLawfulBy, IsLawfulKind, IsLawfulMove}
-use Rattle.ssd_geo.specs.LookLaws.{NamesUsed, RowsNameUsed, StandsInUsed, NamesOther, is_rewrite, is_rewritten}
+use Rattle.ssd_geo.specs.Lawful.{IsLawfulKind, IsLawfulMove}
+use Rattle.ssd_geo.specs.LookLaws.{NamesUsed}
 use Rattle.ssd_geo.specs.PageMap.{names_superblock}
 use Rattle.ssd_geo.specs.Ranges.{has_slot, is_in_range}
 use Rattle.ssd_geo.specs.declared.shape.Shape.{Shape}

@@ -1,7 +1,6 @@
 -- Which replies and which views do the worked histories give? The steps of a call are those of its tag.
 use Rattle.std.specs.Prelude.{ℕ, ◌≡◌, List, [], take, Some}
 use Rattle.ssd_geo.specs.CallSteps.{CallStep, steps_of}
-use Rattle.ssd_geo.specs.Coding.{Coding}
 use Rattle.ssd_geo.specs.FollowedViews.{FollowsView}
 use Rattle.ssd_geo.specs.History.{past_of}
 use Rattle.ssd_geo.specs.HistoryExamples.{AreWithinLimits, blank_channel, blank_start, call_of, numbered, plain_coding}

@@ -1,6 +1,6 @@
 -- What does an open look hold fast? Its slot isn't used again, so a copy can't bring back a page that was written or
 -- trimmed since. Each law is the contract of a function without a body.
-use Rattle.std.specs.Prelude.{ℕ, ◌≡◌, ◌≢◌, ◌<◌, ◌==◌, nat_lt, Bool, true, false, ◌&&◌, ◌||◌, IsTrue, List, [], ◌∷◌, length, All, slice_index_or, IsSomeAnd, ⊤}
+use Rattle.std.specs.Prelude.{ℕ, ◌≡◌, ◌≢◌, ◌<◌, ◌==◌, nat_lt, Bool, false, ◌&&◌, ◌||◌, IsTrue, List, [], ◌∷◌, length, All, slice_index_or, IsSomeAnd, ⊤}
 use Rattle.ssd_geo.specs.History.{open_look, open_looks}
 use Rattle.ssd_geo.specs.Ladder.{LadderState}
 use Rattle.ssd_geo.specs.Lawful.{IsLawfulBy}

@@ -1,7 +1,7 @@
 -- Do the pages under an open look stay as they were? From a look to its leave, every page of its superblock that was
 -- programmed at the look keeps its word, and no closed stripe of it opens. Each law is the contract of a function without
 -- a body.
-use Rattle.std.specs.Prelude.{ℕ, ◌≡◌, ◌<◌, ◌≤◌, Bool, false, List, length, All, Option, IsSome}
+use Rattle.std.specs.Prelude.{ℕ, ◌≡◌, ◌<◌, ◌≤◌, false, List, length, All, Option, IsSome}
 use Rattle.ssd_geo.specs.Blocks.{block_at}
 use Rattle.ssd_geo.specs.Coding.{Coding}
 use Rattle.ssd_geo.specs.History.{open_looks}
@@ -10,7 +10,7 @@ use Rattle.ssd_geo.specs.Lawful.{IsLawfulBy}
 use Rattle.ssd_geo.specs.PastBlocks.{used_of}
 use Rattle.ssd_geo.specs.PastPages.{StoredPage, page_of, word_of_page}
 use Rattle.ssd_geo.specs.PlainMap.{past_at}
-use Rattle.ssd_geo.specs.Start.{BlockCells, Start, cells_at}
+use Rattle.ssd_geo.specs.Start.{Start, cells_at}
 use Rattle.ssd_geo.specs.States as States
 use Rattle.ssd_geo.specs.Superblock.{due_pages}
 use Rattle.ssd_geo.specs.declared.entry.Entry.{Entry}
