@@ -25,11 +25,11 @@ pub record IsCut (fact : List Entry → List Entry → Type 0) (before past : Li
 -- a drain of so many hints was cut: some refreshes are whole, and one more hint was taken
 pub data SerialDrainCut (contents : List (Tag × List ℕ)) (channels : ℕ) (tag : Tag) : ℕ → SerialState → SerialState → Type 0 where
   stops : {count page : ℕ} {rest : List ℕ} {before : SerialState} → before.hints ≡ page ∷ rest
-    → SerialDrainCut contents channels tag (suc count) before (without_hint rest before)
+      → SerialDrainCut contents channels tag (suc count) before (without_hint rest before)
   takes : {count page : ℕ} {rest : List ℕ} {before between after : SerialState} → before.hints ≡ page ∷ rest
-    → DrainedRefresh contents channels tag page (without_hint rest before) between false
-    → SerialDrainCut contents channels tag count between after
-    → SerialDrainCut contents channels tag (suc count) before after
+      → DrainedRefresh contents channels tag page (without_hint rest before) between false
+      → SerialDrainCut contents channels tag count between after
+      → SerialDrainCut contents channels tag (suc count) before after
 
 -- a call served alone that was cut, by its verb
 abbrev pub SerialCut : List (Tag × List ℕ) → ℕ → Tag → Verb → SerialState → SerialState → Type 0
