@@ -6,6 +6,8 @@ mod listed_faults;
 mod mounted;
 mod sim_die;
 mod store;
+#[cfg(test)]
+mod tests;
 mod words;
 
 pub use listed_faults::ListedFaults;
