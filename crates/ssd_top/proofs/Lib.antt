@@ -1,0 +1,6 @@
+mod AcceptedWords
+mod Consuming
+mod Hexadecimal
+mod InputLengths
+mod NoiselessCells
+mod PageText

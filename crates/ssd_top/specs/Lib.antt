@@ -1,0 +1,5 @@
+pub mod Input
+pub mod Output
+pub mod Printed
+pub mod Serving
+pub mod Statuses
