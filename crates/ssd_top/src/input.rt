@@ -29,7 +29,9 @@ pub struct Request {
 
 // What follows the front, where the bytes begin with it.
 fn after<'a>(bytes: &'a [u8], front: &[u8]) -> Option<&'a [u8]>
-    ensures { MatchOption result ((rest : List ℕ) → bytes.now ≢ front.now ++ rest) (λ r. bytes.now ≡ front.now ++ r.now) }
+    ensures { MatchOption result
+        ((rest : List ℕ) → bytes.now ≢ front.now ++ rest)
+        (λ r. bytes.now ≡ front.now ++ r.now) }
 {
     bytes.strip_prefix(front)
 }
@@ -118,7 +120,9 @@ fn is_ending(bytes: &[u8], page: u8) -> bool
 
 /// The write and the read of an input that is served.
 pub fn request_of(bytes: &[u8]) -> Option<Request>
-    ensures { MatchOption result (¬ (IsServed bytes.now)) (λ request. Asks bytes.now request.page request.bytes) }
+    ensures { MatchOption result
+        (¬ (IsServed bytes.now))
+        (λ request. Asks bytes.now request.page request.bytes) }
 {
     let (page, rest) = write_at(bytes)?;
     if rest.len() < 10 {

@@ -70,7 +70,8 @@ fn accepted<'a>(code: &Code, shape: &Shape, sense: &'a [u8], page: u32) -> Optio
     requires whole { length sense.now ≡ (word_bits code.now + 7) / 8 }
     ensures { option_copied result
         ≡ (if failed_checks code.now sense.now == 0
-        then data_of_word (payload_bytes_of shape.now.mb shape.now.nb shape.now.z) shape.now.bytes 0 page sense.now
+        then data_of_word (payload_bytes_of shape.now.mb shape.now.nb shape.now.z) shape.now.bytes 0
+        page sense.now
         else None) }
 {
     if code.failed_checks(sense) == 0 {

@@ -122,8 +122,10 @@ impl Printed {
     /// Writes it. It takes no memory.
     pub fn print<O: Sink>(&mut self, page: u8, bytes: &[u8], output: &mut O) -> Result<(), Failed>
         requires { IsOf self.old page bytes.now }
-        ensures all { OnOk result (Appends (O.written output.old) (O.written output.new) (page_text page bytes.now)) }
-        ensures front { OnErr result (AppendsFront (O.written output.old) (O.written output.new) (page_text page bytes.now)) }
+        ensures all { OnOk result
+            (Appends (O.written output.old) (O.written output.new) (page_text page bytes.now)) }
+        ensures front { OnErr result
+            (AppendsFront (O.written output.old) (O.written output.new) (page_text page bytes.now)) }
         ensures cause { HasCause (O.faults output.old) (O.faults output.new) result }
     {
         print_run(

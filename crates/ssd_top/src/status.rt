@@ -52,7 +52,8 @@ impl Status {
 /// Adds the status's text, a whole line or nothing, to the end of `out`, which stays as it is where memory is
 /// refused.
 pub fn status_text(status: &Status, out: &mut Vec<u8>) -> Result<(), Memory>
-    ensures { out.new.items ≡ (if is_ok result then out.old.items ++ text_of_status status.now else out.old.items) }
+    ensures { out.new.items
+        ≡ (if is_ok result then out.old.items ++ text_of_status status.now else out.old.items) }
 {
     out.extend_from_slice(status.text()).map_err(|_| Memory)
 }

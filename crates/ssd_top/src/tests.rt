@@ -47,9 +47,12 @@ fn outcome(
     let mut bytes = Vec::from_slice(alloc, &IMAGE)?;
     bytes.extend_from_slice(trace)?;
     let mut input = MemSource::new(bytes, vec![in alloc; reads]?);
-    let mut output = MemSink::new(alloc, vec![in alloc; writes, writes.saturating_add(1)]?, room).map_err(
-        |_| "no memory",
-    )?;
+    let mut output = MemSink::new(
+        alloc,
+        vec![in alloc; writes, writes.saturating_add(1)]?,
+        room,
+    )
+    .map_err(|_| "no memory")?;
     let words = vec![in alloc; Word::new(String::from_str(alloc, word)?)]?;
     let status = run(alloc, &words, &mut input, &mut output);
     Ok((status, output))

@@ -21,19 +21,21 @@ pub fn run<S: Source, O: Sink>(
     output: &mut O,
 ) -> Status
     // The words that are refused, and only those; nothing was read.
-    ensures refused { result ≡ Status.Words → (words.now ≢ codes "run" ∷ []) × (input.new ≡ input.old) }
+    ensures refused { result ≡ Status.Words → words.now ≢ codes "run" ∷ [] }
+    ensures untouched { result ≡ Status.Words → input.new ≡ input.old }
     ensures command { (result ≡ Status.Words) ⊎ (words.now ≡ codes "run" ∷ []) }
 
     // A fault comes only where its count rose.
     ensures read_fault { result ≡ Status.ReadFault → Rose (S.faults input.old) (S.faults input.new) }
     ensures write_fault { result ≡ Status.WriteFault → Rose (O.faults output.old) (O.faults output.new) }
-    ensures counts { NeverFell (S.faults input.old) (S.faults input.new) × NeverFell (O.faults output.old) (O.faults output.new) }
+    ensures reads { NeverFell (S.faults input.old) (S.faults input.new) }
+    ensures writes { NeverFell (O.faults output.old) (O.faults output.new) }
 
     // What was read is an input that is served, and all of its text was written, or a front of it.
-    ensures done { result ≡ Status.Done
-        → Serves (S.left input.old) (S.left input.new) (Appends (O.written output.old) (O.written output.new)) }
-    ensures front { result ≡ Status.WriteFault
-        → Serves (S.left input.old) (S.left input.new) (AppendsFront (O.written output.old) (O.written output.new)) }
+    ensures done { result ≡ Status.Done → Serves (S.left input.old) (S.left input.new)
+        (Appends (O.written output.old) (O.written output.new)) }
+    ensures front { result ≡ Status.WriteFault → Serves (S.left input.old) (S.left input.new)
+        (AppendsFront (O.written output.old) (O.written output.new)) }
 
     // What was read isn't such an input, and can't become one.
     ensures not_built { result ≡ Status.NotBuilt → IsNotServed (S.left input.old) (S.left input.new) }
