@@ -7,7 +7,8 @@ use ssd_geo::{CallKind, Items, Reply};
 
 /// The numbers of replies at each rung's place.
 pub fn count_rungs(replies: &[Items<Reply>]) -> [u128; 257]
-    ensures counted { (k : ℕ) → k < 257 → slice_index result k ≡ sum_by (placed_rungs k) replies.now }
+    ensures counted { (k : ℕ) → k < 257 →
+        slice_index result k ≡ sum_by (placed_rungs k) replies.now }
     ensures len { length result ≡ 257 }
 {
     let mut counts = [0; 257];
@@ -21,7 +22,8 @@ fn count_data(counts: &mut [u128; 257], replies: &[Reply])
     requires { (k : ℕ) → k < 257 → slice_index counts.old k ≤ 2 ^ 128 - 2 ^ 64 }
     ensures counted { (k : ℕ) → k < 257 →
         slice_index counts.new k ≡ slice_index counts.old k + placed_rungs k replies.now }
-    ensures bound { (k : ℕ) → k < 257 → slice_index counts.new k ≤ slice_index counts.old k + 2 ^ 64 }
+    ensures bound { (k : ℕ) → k < 257 →
+        slice_index counts.new k ≤ slice_index counts.old k + 2 ^ 64 }
     ensures len { length counts.new ≡ 257 }
 {
     for reply in replies {
@@ -147,7 +149,8 @@ fn taken_pages(reply: &Reply) -> u64
 pub fn count_calls(kinds: &[Items<CallKind>], replies: &[Items<Reply>]) -> [u128; 10]
     requires lists { length kinds.now ≡ length replies.now }
     requires long { AsLong kinds.now replies.now }
-    ensures { (k : ℕ) → k < 10 → slice_index result k ≡ placed_calls k (answered_calls kinds.now replies.now) }
+    ensures { (k : ℕ) → k < 10 →
+        slice_index result k ≡ placed_calls k (answered_calls kinds.now replies.now) }
 {
     let mut counts = [0; 10];
     for actor in 0..replies.len() {
@@ -164,8 +167,10 @@ fn count_actor(counts: &mut [u128; 10], kinds: &[CallKind], replies: &[Reply])
     requires room { (k : ℕ) → k < 10 → slice_index counts.old k ≤ 2 ^ 128 - 2 ^ 64 }
     requires long { length replies.now ≤ length kinds.now }
     ensures counted { (k : ℕ) → k < 10 →
-        slice_index counts.new k ≡ slice_index counts.old k + placed_calls k (zip kinds.now replies.now) }
-    ensures bound { (k : ℕ) → k < 10 → slice_index counts.new k ≤ slice_index counts.old k + 2 ^ 64 }
+        slice_index counts.new k
+        ≡ slice_index counts.old k + placed_calls k (zip kinds.now replies.now) }
+    ensures bound { (k : ℕ) → k < 10 →
+        slice_index counts.new k ≤ slice_index counts.old k + 2 ^ 64 }
 {
     for call in 0..replies.len() {
         let place = place_of_call(kinds[call], &replies[call]);

@@ -19,7 +19,8 @@ fn count_entries(counts: &mut [u128; 10], entries: &[Entry])
     requires { (k : ℕ) → k < 10 → slice_index counts.old k ≤ 2 ^ 128 - 2 ^ 64 }
     ensures counted { (k : ℕ) → k < 10 →
         slice_index counts.new k ≡ slice_index counts.old k + placed_entries k entries.now }
-    ensures bound { (k : ℕ) → k < 10 → slice_index counts.new k ≤ slice_index counts.old k + 2 ^ 64 }
+    ensures bound { (k : ℕ) → k < 10 →
+        slice_index counts.new k ≤ slice_index counts.old k + 2 ^ 64 }
 {
     for entry in entries {
         let place = place_of(&entry.kind);

@@ -52,7 +52,8 @@ pub fn put_number<O: Sink>(output: &mut O, line: &mut Vec<u8>, n: u64) -> Result
 
 /// Adds a number that may be below 0.
 pub fn put_signed<O: Sink>(output: &mut O, line: &mut Vec<u8>, n: i16) -> Result<(), Failed>
-    ensures { Prints O.written O.faults output.old output.new line.old line.new result (signed_decimal n) }
+    ensures { Prints O.written O.faults output.old output.new line.old line.new result
+        (signed_decimal n) }
 {
     let mut digits = Buffer::new();
     put(output, line, digits.format(n).as_bytes())
@@ -60,7 +61,8 @@ pub fn put_signed<O: Sink>(output: &mut O, line: &mut Vec<u8>, n: i16) -> Result
 
 /// Adds a full stop and a number.
 pub fn put_dotted<O: Sink>(output: &mut O, line: &mut Vec<u8>, n: u64) -> Result<(), Failed>
-    ensures { Prints O.written O.faults output.old output.new line.old line.new result (46 ∷ decimal n) }
+    ensures { Prints O.written O.faults output.old output.new line.old line.new result
+        (46 ∷ decimal n) }
 {
     put(output, line, b".")?;
     put_number(output, line, n)
@@ -68,7 +70,8 @@ pub fn put_dotted<O: Sink>(output: &mut O, line: &mut Vec<u8>, n: u64) -> Result
 
 /// Adds two numbers with a full stop between.
 pub fn put_pair<O: Sink>(output: &mut O, line: &mut Vec<u8>, m: u64, n: u64) -> Result<(), Failed>
-    ensures { Prints O.written O.faults output.old output.new line.old line.new result (dotted (m ∷ n ∷ [])) }
+    ensures { Prints O.written O.faults output.old output.new line.old line.new result
+        (dotted (m ∷ n ∷ [])) }
 {
     put_number(output, line, m)?;
     put_dotted(output, line, n)
@@ -82,7 +85,8 @@ pub fn put_three<O: Sink>(
     m: u64,
     n: u64,
 ) -> Result<(), Failed>
-    ensures { Prints O.written O.faults output.old output.new line.old line.new result (dotted (l ∷ m ∷ n ∷ [])) }
+    ensures { Prints O.written O.faults output.old output.new line.old line.new result
+        (dotted (l ∷ m ∷ n ∷ [])) }
 {
     put_number(output, line, l)?;
     put_dotted(output, line, m)?;

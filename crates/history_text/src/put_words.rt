@@ -10,7 +10,8 @@ use ssd_io::{Failed, Sink};
 
 /// Adds a word.
 pub fn put_word<O: Sink>(output: &mut O, line: &mut Vec<u8>, word: Word) -> Result<(), Failed>
-    ensures { Prints O.written O.faults output.old output.new line.old line.new result (word_text word) }
+    ensures { Prints O.written O.faults output.old output.new line.old line.new result
+        (word_text word) }
 {
     match word {
         Word::Name(bytes) => put(output, line, bytes),
@@ -32,7 +33,8 @@ pub fn put_word<O: Sink>(output: &mut O, line: &mut Vec<u8>, word: Word) -> Resu
 }
 
 fn put_die_fault<O: Sink>(output: &mut O, line: &mut Vec<u8>, die: u8) -> Result<(), Failed>
-    ensures { Prints O.written O.faults output.old output.new line.old line.new result (word_text (Word.DieFault die)) }
+    ensures { Prints O.written O.faults output.old output.new line.old line.new result
+        (word_text (Word.DieFault die)) }
 {
     put(output, line, b"diefault")?;
     put_dotted(output, line, die as u64)
@@ -40,7 +42,8 @@ fn put_die_fault<O: Sink>(output: &mut O, line: &mut Vec<u8>, die: u8) -> Result
 
 /// Adds a space and a word.
 pub fn put_spaced<O: Sink>(output: &mut O, line: &mut Vec<u8>, word: Word) -> Result<(), Failed>
-    ensures { Prints O.written O.faults output.old output.new line.old line.new result (32 ∷ word_text word) }
+    ensures { Prints O.written O.faults output.old output.new line.old line.new result
+        (32 ∷ word_text word) }
 {
     put(output, line, b" ")?;
     put_word(output, line, word)

@@ -117,7 +117,8 @@ fn put_hex_end<O: Sink>(output: &mut O, line: &mut Vec<u8>, bytes: &[u8]) -> Res
 }
 
 fn put_hex<O: Sink>(output: &mut O, line: &mut Vec<u8>, bytes: &[u8]) -> Result<(), Failed>
-    ensures { Prints O.written O.faults output.old output.new line.old line.new result (hex_of_bytes bytes.now) }
+    ensures { Prints O.written O.faults output.old output.new line.old line.new result
+        (hex_of_bytes bytes.now) }
 {
     for byte in bytes {
         put_byte(output, line, *byte)?;
@@ -126,7 +127,8 @@ fn put_hex<O: Sink>(output: &mut O, line: &mut Vec<u8>, bytes: &[u8]) -> Result<
 }
 
 fn put_byte<O: Sink>(output: &mut O, line: &mut Vec<u8>, byte: u8) -> Result<(), Failed>
-    ensures { Prints O.written O.faults output.old output.new line.old line.new result (hex_of_byte byte) }
+    ensures { Prints O.written O.faults output.old output.new line.old line.new result
+        (hex_of_byte byte) }
 {
     put(output, line, &[hex_digit(byte / 16), hex_digit(byte % 16)])
 }

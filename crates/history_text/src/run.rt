@@ -23,7 +23,8 @@ fn put_histories<O: Sink>(
     line: &mut Vec<u8>,
     histories: &[Items<Entry>],
 ) -> Result<(), Failed>
-    ensures { Prints O.written O.faults output.old output.new line.old line.new result (histories_text histories.now) }
+    ensures { Prints O.written O.faults output.old output.new line.old line.new result
+        (histories_text histories.now) }
 {
     for (channel, entries) in histories.iter().enumerate() {
         put_history(output, line, channel as u64, entries.as_slice())?;
@@ -36,7 +37,8 @@ fn put_actors<O: Sink>(
     line: &mut Vec<u8>,
     replies: &[Items<Reply>],
 ) -> Result<(), Failed>
-    ensures { Prints O.written O.faults output.old output.new line.old line.new result (actors_text replies.now) }
+    ensures { Prints O.written O.faults output.old output.new line.old line.new result
+        (actors_text replies.now) }
 {
     for (actor, given) in replies.iter().enumerate() {
         put_actor(output, line, actor as u64, given.as_slice())?;
@@ -70,9 +72,11 @@ fn put_counted<O: Sink>(
     requires lists { length kinds.now ≡ length replies.now }
     requires long { AsLong kinds.now replies.now }
     requires dropped { dropped ≤ answers_count is_hinted replies.now }
-    requires taken { sum_by (sum_by taken_by) replies.now ≤ answers_count is_hinted replies.now - dropped }
-    ensures { Prints O.written O.faults output.old output.new line.old line.new result
-        (summary_text (summary_of (length head.now.read_levels) histories.now kinds.now replies.now dropped)) }
+    requires taken { sum_by (sum_by taken_by) replies.now
+        ≤ answers_count is_hinted replies.now - dropped }
+    ensures { let levels = length head.now.read_levels in
+        let text = summary_text (summary_of levels histories.now kinds.now replies.now dropped) in
+        Prints O.written O.faults output.old output.new line.old line.new result text }
 {
     let levels = head.read_levels.len();
     let calls = count_calls(kinds, replies);
@@ -119,10 +123,13 @@ pub fn print_run<O: Sink>(
     requires lists { length kinds.now ≡ length replies.now }
     requires long { AsLong kinds.now replies.now }
     requires dropped { dropped ≤ answers_count is_hinted replies.now }
-    requires taken { sum_by (sum_by taken_by) replies.now ≤ answers_count is_hinted replies.now - dropped }
-    ensures all { let text = run_text whole (length head.now.read_levels) histories.now kinds.now replies.now dropped in
+    requires taken { sum_by (sum_by taken_by) replies.now
+        ≤ answers_count is_hinted replies.now - dropped }
+    ensures all { let levels = length head.now.read_levels in
+        let text = run_text whole levels histories.now kinds.now replies.now dropped in
         OnOk result (Appends (O.written output.old) (O.written output.new) text) }
-    ensures front { let text = run_text whole (length head.now.read_levels) histories.now kinds.now replies.now dropped in
+    ensures front { let levels = length head.now.read_levels in
+        let text = run_text whole levels histories.now kinds.now replies.now dropped in
         OnErr result (AppendsFront (O.written output.old) (O.written output.new) text) }
     ensures cause { HasCause (O.faults output.old) (O.faults output.new) result }
     ensures empty { OnOk result (line.new.items ≡ []) }

@@ -42,7 +42,8 @@ fn put_call_lines<O: Sink>(
     line: &mut Vec<u8>,
     calls: &[u128; 10],
 ) -> Result<(), Failed>
-    ensures { Prints O.written O.faults output.old output.new line.old line.new result (call_lines calls.now) }
+    ensures { Prints O.written O.faults output.old output.new line.old line.new result
+        (call_lines calls.now) }
 {
     put_line(output, line, Word::Name(b"summary"), &[])?;
     put_four(
@@ -59,7 +60,8 @@ fn put_entry_lines<O: Sink>(
     line: &mut Vec<u8>,
     entries: &[u128; 10],
 ) -> Result<(), Failed>
-    ensures { Prints O.written O.faults output.old output.new line.old line.new result (entry_lines entries.now) }
+    ensures { Prints O.written O.faults output.old output.new line.old line.new result
+        (entry_lines entries.now) }
 {
     let moves = [
         Word::Count(entries[0]),
@@ -90,7 +92,8 @@ fn put_entry_lines<O: Sink>(
 }
 
 fn put_last_lines<O: Sink>(output: &mut O, line: &mut Vec<u8>, hints: &Hints) -> Result<(), Failed>
-    ensures { Prints O.written O.faults output.old output.new line.old line.new result (last_lines hints.now) }
+    ensures { Prints O.written O.faults output.old output.new line.old line.new result
+        (last_lines hints.now) }
 {
     let counts = [
         Word::Count(hints.pushed),
