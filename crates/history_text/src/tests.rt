@@ -1,5 +1,6 @@
 //! What runs print, against texts written by hand.
-ghost use Rattle.std.specs.Prelude.{◌≡◌, [], ◌∷◌, length, IfOk};
+ghost use Rattle.std.specs.Prelude.{◌≡◌, ◌-◌, ◌≤◌, [], ◌∷◌, length, count_by, sum_by, IfOk};
+ghost use Rattle.ssd_geo.specs.RunText.{is_hinted, taken_by};
 
 use super::*;
 use ssd_geo::{
@@ -122,5 +123,292 @@ fn one_page_is_printed_whole_and_from_the_summary_on(rt: HostRuntime) -> Result<
         assert_eq!(rt; &sink.bytes()[..lists], &ONE_PAGE[..lists]);
         assert_eq!(rt; &sink.bytes()[lists..], ONE_PAGE_SUMMARY);
     }
+    Ok(())
+}
+
+const PAGE: Row = Row::Page {
+    slot: SLOT,
+    serial: 1099511627776,
+};
+
+const BAD: Slot = Slot { sb: 3, index: 1 };
+
+// One entry of each kind, or two where its text has two forms.
+const CALLS: &[Kind] = &[
+    Kind::Look {
+        row: 4,
+        found: PAGE,
+        closed: true,
+    },
+    Kind::Look {
+        row: 4,
+        found: PAGE,
+        closed: false,
+    },
+    Kind::Look {
+        row: 4,
+        found: Row::Empty,
+        closed: false,
+    },
+    Kind::Look {
+        row: 4,
+        found: Row::Lost,
+        closed: false,
+    },
+    Kind::Sense {
+        at: 3,
+        place: PLACE,
+        level: -60,
+    },
+    Kind::Leave { at: 3 },
+    Kind::Write { row: 0, slot: SLOT },
+    Kind::Trim { row: 12 },
+    Kind::Refused { row: 0, worn: true },
+    Kind::Refused {
+        row: 0,
+        worn: false,
+    },
+];
+
+const MOVES: &[Kind] = &[
+    Kind::Move { at: 13, slot: SLOT },
+    Kind::Changed { at: 4, found: PAGE },
+    Kind::Changed {
+        at: 4,
+        found: Row::Empty,
+    },
+    Kind::Changed {
+        at: 4,
+        found: Row::Lost,
+    },
+    Kind::Condemn { at: 9 },
+    Kind::Stay { at: 20, worn: true },
+    Kind::Stay {
+        at: 20,
+        worn: false,
+    },
+    Kind::FaultSense {
+        at: 1,
+        place: PLACE,
+        level: 0,
+    },
+];
+
+const BLOCKS: &[Kind] = &[
+    Kind::Pick { sb: 0 },
+    Kind::Erase { sb: 255 },
+    Kind::BadWrite {
+        row: 0,
+        slot: BAD,
+        die: 0,
+        fault: false,
+    },
+    Kind::BadCopy {
+        at: 16,
+        slot: BAD,
+        die: 0,
+        fault: true,
+    },
+    Kind::BadErase {
+        sb: 1,
+        die: 2,
+        fault: false,
+    },
+    Kind::Age {
+        die: 1,
+        sb: 0,
+        amount: 150,
+    },
+    Kind::FaultAge {
+        die: 1,
+        sb: 0,
+        amount: 150,
+    },
+    Kind::Note {
+        free: 4,
+        victim: None,
+        live: 0,
+        pins: 0,
+        garbage: 0,
+    },
+    Kind::Note {
+        free: 1,
+        victim: Some(2),
+        live: 3,
+        pins: 4,
+        garbage: 5,
+    },
+];
+
+fn listed(alloc: Global, kinds: &[Kind]) -> Result<Items<Entry>, Fail> {
+    let mut entries = Vec::new(alloc);
+    for kind in kinds {
+        entries.push(at(7, *kind))?;
+    }
+    Ok(Items::new(entries))
+}
+
+fn each_entry(alloc: Global) -> Result<Vec<Items<Entry>>, Fail> {
+    let (calls, moves, blocks) = (
+        listed(alloc, CALLS)?,
+        listed(alloc, MOVES)?,
+        listed(alloc, BLOCKS)?,
+    );
+    Ok(vec![in alloc; calls, moves, blocks]?)
+}
+
+const EACH_ENTRY: &[u8] =
+    b"channel 0 10\n0 0.7 look 4 page 2.11 1099511627776 closed\n1 0.7 look 4 page 2.11 1099511627776 open\n2 0.7 look 4 empty\n3 0.7 look 4 lost\n4 0.7 sense 3 1.2.10 -60\n5 0.7 leave 3\n6 0.7 write 0 2.11\n7 0.7 trim 12\n8 0.7 refused 0 readonly\n9 0.7 refused 0 full\nchannel 1 8\n0 0.7 move 13 2.11\n1 0.7 changed 4 page 2.11 1099511627776\n2 0.7 changed 4 empty\n3 0.7 changed 4 lost\n4 0.7 condemn 9\n5 0.7 stay 20 readonly\n6 0.7 stay 20 noroom\n7 0.7 fault sense 1 1.2.10 0\nchannel 2 9\n0 0.7 pick 0\n1 0.7 erase 255\n2 0.7 bad write 0 3.1 0 fail\n3 0.7 bad copy 16 3.1 0 fault\n4 0.7 bad erase 1 2 fail\n5 0.7 age 1.0 150\n6 0.7 fault age 1.0 150\n7 0.7 note 4 - 0 0 0\n8 0.7 note 1 2 3 4 5\nsummary\nwrite 0 0 0 0\nread 0 0 0 0\ntrim 0\nmove 1 condemn 1 changed 3 stay 2\npick 1 erase 1 bad 3 fault 2\nsense 1\nrung 0 0 0 0\nhint 0 0 0\nend\n";
+
+#[test]
+fn each_kind_of_entry_has_its_line_and_its_count(rt: HostRuntime) -> Result<(), Fail> {
+    let alloc = rt.alloc();
+    let (head, histories) = (small_head(alloc)?, each_entry(alloc)?);
+    let mut sink = MemSink::new(alloc, Vec::new(alloc), 2000)?;
+    let mut line = Vec::with_capacity(alloc, 528)?;
+    let printed = print_run(&mut sink, &head, &histories, &[], &[], 0, true, &mut line);
+    assert_eq!(rt; printed, Ok(()));
+    assert_eq!(rt; sink.bytes(), EACH_ENTRY);
+    Ok(())
+}
+
+#[test]
+fn a_front_is_written_before_the_sink_fails(rt: HostRuntime) -> Result<(), Fail> {
+    let alloc = rt.alloc();
+    let (head, histories) = (small_head(alloc)?, each_entry(alloc)?);
+    let mut sink = MemSink::new(alloc, vec![in alloc; 3]?, 2000)?;
+    let mut line = Vec::with_capacity(alloc, 64)?;
+    let printed = print_run(&mut sink, &head, &histories, &[], &[], 0, true, &mut line);
+    assert_eq!(rt; printed, Err(Failed));
+    assert!(rt; !sink.bytes().is_empty() && sink.bytes().len() < EACH_ENTRY.len());
+    assert!(rt; EACH_ENTRY.starts_with(sink.bytes()));
+    Ok(())
+}
+
+// Prints the replies of one actor.
+fn print_actor(
+    alloc: Global,
+    kinds: Vec<CallKind>,
+    replies: Vec<Reply>,
+    dropped: u64,
+) -> Result<MemSink, Fail>
+    requires long { length replies.items ≤ length kinds.items }
+    requires dropped { dropped ≤ count_by is_hinted replies.items }
+    requires taken { sum_by taken_by replies.items ≤ count_by is_hinted replies.items - dropped }
+{
+    let head = small_head(alloc)?;
+    let (kinds, replies) = ([Items::new(kinds)], [Items::new(replies)]);
+    let mut sink = MemSink::new(alloc, Vec::new(alloc), 2000)?;
+    let mut line = Vec::with_capacity(alloc, 528)?;
+    print_run(
+        &mut sink,
+        &head,
+        &[],
+        &kinds,
+        &replies,
+        dropped,
+        true,
+        &mut line,
+    )?;
+    Ok(sink)
+}
+
+#[test]
+fn replies_to_writes_and_trims_are_counted(rt: HostRuntime) -> Result<(), Fail> {
+    use CallKind::{Trim, Write};
+    let alloc = rt.alloc();
+    let kinds = vec![in alloc; Write, Write, Write, Write, Trim, Write]?;
+    let replies = vec![in alloc;
+        Reply::Ok,
+        Reply::Full,
+        Reply::ReadOnly,
+        Reply::DieFault { die: 1 },
+        Reply::Ok,
+    ]?;
+    let text: &[u8] =
+        b"actor 0 5\n0 ok\n1 full\n2 readonly\n3 diefault.1\n4 ok\nsummary\nwrite 1 1 1 1\nread 0 0 0 0\ntrim 1\nmove 0 condemn 0 changed 0 stay 0\npick 0 erase 0 bad 0 fault 0\nsense 0\nrung 0 0 0 0\nhint 0 0 0\nend\n";
+    let sink = print_actor(alloc, kinds, replies, 0)?;
+    assert_eq!(rt; sink.bytes(), text);
+    Ok(())
+}
+
+#[test]
+fn replies_to_reads_are_counted_with_their_rungs(rt: HostRuntime) -> Result<(), Fail> {
+    use CallKind::Read;
+    let alloc = rt.alloc();
+    let kinds = vec![in alloc; Read, Read, Read, Read, Read, Read]?;
+    let bytes = Items::new(vec![in alloc; 1, 171]?);
+    let (first, second) = (Items::new(Vec::new(alloc)), Items::new(Vec::new(alloc)));
+    let replies = vec![in alloc;
+        Reply::Data {
+            rung: 0,
+            bytes: first
+        },
+        Reply::Data {
+            rung: 1,
+            bytes: second
+        },
+        Reply::Data { rung: 3, bytes },
+        Reply::Empty,
+        Reply::Uncorrectable,
+        Reply::DieFault { die: 2 },
+    ]?;
+    let text: &[u8] =
+        b"actor 0 6\n0 data 0 \n1 data 1 \n2 data 3 01ab\n3 empty\n4 uncorrectable\n5 diefault.2\nsummary\nwrite 0 0 0 0\nread 3 1 1 1\ntrim 0\nmove 0 condemn 0 changed 0 stay 0\npick 0 erase 0 bad 0 fault 0\nsense 0\nrung 1 1 0 1\nhint 1 1 0\nend\n";
+    let sink = print_actor(alloc, kinds, replies, 1)?;
+    assert_eq!(rt; sink.bytes(), text);
+    Ok(())
+}
+
+#[test]
+fn replies_to_refreshes_and_collects_have_their_lines(rt: HostRuntime) -> Result<(), Fail> {
+    use CallKind::{Collect, Refresh};
+    let alloc = rt.alloc();
+    let kinds = vec![in alloc;
+        Refresh, Refresh, Refresh, Refresh, Collect, Collect, Collect,
+    ]?;
+    let replies = vec![in alloc;
+        Reply::Moved,
+        Reply::Changed,
+        Reply::NoRoom,
+        Reply::Failed,
+        Reply::Collected { sb: 0 },
+        Reply::Retired { sb: 17 },
+        Reply::Idle,
+    ]?;
+    let text: &[u8] =
+        b"actor 0 7\n0 moved\n1 changed\n2 noroom\n3 failed\n4 collected 0\n5 retired 17\n6 idle\nsummary\nwrite 0 0 0 0\nread 0 0 0 0\ntrim 0\nmove 0 condemn 0 changed 0 stay 0\npick 0 erase 0 bad 0 fault 0\nsense 0\nrung 0 0 0 0\nhint 0 0 0\nend\n";
+    let sink = print_actor(alloc, kinds, replies, 0)?;
+    assert_eq!(rt; sink.bytes(), text);
+    Ok(())
+}
+
+#[test]
+fn a_drain_lists_its_pages_and_takes_hints(rt: HostRuntime) -> Result<(), Fail> {
+    use CallKind::{Drain, Read};
+    let alloc = rt.alloc();
+    let kinds = vec![in alloc; Read, Read, Drain, Drain]?;
+    let (first, second) = (Items::new(Vec::new(alloc)), Items::new(Vec::new(alloc)));
+    let none = Items::new(Vec::new(alloc));
+    let pages = Items::new(vec![in alloc;
+        (0, RefreshReply::Moved),
+        (12, RefreshReply::DieFault { die: 2 }),
+    ]?);
+    let replies = vec![in alloc;
+        Reply::Data {
+            rung: 1,
+            bytes: first
+        },
+        Reply::Data {
+            rung: 2,
+            bytes: second
+        },
+        Reply::Drained { pages: none },
+        Reply::Drained { pages },
+    ]?;
+    let text: &[u8] =
+        b"actor 0 4\n0 data 1 \n1 data 2 \n2 drained 0\n3 drained 2 0=moved 12=diefault.2\nsummary\nwrite 0 0 0 0\nread 2 0 0 0\ntrim 0\nmove 0 condemn 0 changed 0 stay 0\npick 0 erase 0 bad 0 fault 0\nsense 0\nrung 0 1 1 0\nhint 2 0 2\nend\n";
+    let sink = print_actor(alloc, kinds, replies, 0)?;
+    assert_eq!(rt; sink.bytes(), text);
     Ok(())
 }
