@@ -129,7 +129,7 @@ fn the_first_fault_is_named(rt: HostRuntime) {
         Address(0),
         Command(0x30),
     ];
-    // Each shorter read ends too early, and each cycle in the place of the next but one is wrong or one too many.
+    // Each shorter read ends too early.
     for end in 0..7usize {
         assert_eq!(rt;
             op_of(&read[..end]),
@@ -223,6 +223,49 @@ fn the_first_fault_is_named(rt: HostRuntime) {
         op_of(&[a, b, c, d, e, f, Byte(1), Command(0x10), Byte(1)]),
         Err(CycleFault::Extra { at: 8 })
     );
+}
+
+// Each operation ends too early before each of its cycles, has a wrong cycle at each place, and one after its end.
+#[test]
+fn a_fault_is_named_at_each_place(rt: HostRuntime) -> Result<(), Fail> {
+    let [zero, byte] = [Address(0), Byte(0)];
+    let operations: [&[Cycle]; 7] = [
+        &[Command(0x00), zero, zero, zero, zero, zero, Command(0x30)],
+        &[
+            Command(0x80),
+            zero,
+            zero,
+            zero,
+            zero,
+            zero,
+            byte,
+            byte,
+            Command(0x10),
+        ],
+        &[Command(0x60), zero, zero, zero, Command(0xd0)],
+        &[Command(0x70)],
+        &[Command(0xff)],
+        &[Command(0xef), Address(0x89), byte, byte, byte, byte],
+        &[Command(0xee), Address(0x89)],
+    ];
+    for cycles in operations {
+        assert!(rt; cycles.len() < 10);
+        for at in 0..cycles.len() {
+            let mut changed = Vec::from_slice(rt.alloc(), cycles).ok().ok_or("memory")?;
+            changed[at] = match cycles[at] {
+                Address(_) => byte,
+                _ => zero,
+            };
+            let place = at as u32;
+            assert_eq!(rt; op_of(&cycles[..at]), Err(CycleFault::Short { at: place }));
+            assert_eq!(rt; op_of(&changed), Err(CycleFault::Wrong { at: place }));
+        }
+        let mut longer = Vec::from_slice(rt.alloc(), cycles).ok().ok_or("memory")?;
+        longer.push(zero).ok().ok_or("memory")?;
+        let at = cycles.len() as u32;
+        assert_eq!(rt; op_of(&longer), Err(CycleFault::Extra { at }));
+    }
+    Ok(())
 }
 
 #[test]
