@@ -1,6 +1,10 @@
 mod AcceptedWords
 mod Consuming
+mod DeviceReads
+mod FirstSense
 mod Hexadecimal
 mod InputLengths
 mod NoiselessCells
+mod PageHeadline
+mod PageRun
 mod PageText

@@ -25,7 +25,7 @@ sensed_bit-aim law at false low high =
     let above : at ≤ℤ (law.programmed +ℤ pos 0) = omega (arith, ints) in
     grind (arith, ints)
 
-map_through : {A B C : Type 0} (p : B → C) (f : A → B) (g : A → C) → ((x : A) → p (f x) ≡ g x) → (xs : List A) → map p (map f xs) ≡ map g xs
+pub map_through : {A B C : Type 0} (p : B → C) (f : A → B) (g : A → C) → ((x : A) → p (f x) ≡ g x) → (xs : List A) → map p (map f xs) ≡ map g xs
 map_through p f g same [] = refl
 map_through p f g same (x ∷ xs) =
     ap (λ y. y ∷ map p (map f xs)) (same x) ∙ ap (λ ys. g x ∷ ys) (map_through p f g same xs)

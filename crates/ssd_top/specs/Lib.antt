@@ -1,3 +1,4 @@
+pub mod Headline
 pub mod Input
 pub mod Output
 pub mod Printed
