@@ -6,5 +6,6 @@ mod Hexadecimal
 mod InputLengths
 mod NoiselessCells
 mod PageHeadline
+mod PageInput
 mod PageRun
 mod PageText
