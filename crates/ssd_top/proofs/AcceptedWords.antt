@@ -1,5 +1,5 @@
 -- A codeword fails no check, and a codeword that begins with a page's payload gives the page's data back.
-use Rattle.std.proofs.Common.{ℕ, zero, suc, ◌≡◌, ◌+◌, ◌*◌, ◌/◌, ◌%◌, ◌<◌, ◌≤◌, Bool, true, false, List, [], ◌∷◌, ◌++◌, map, length, take, drop, get_or, Bor, None, Some, count_by, refl, sym, ◌∙◌, ap, arith, subst, cond, fold, inl, inr, rules}
+use Rattle.std.proofs.Common.{ℕ, zero, suc, ◌≡◌, ◌+◌, ◌*◌, ◌/◌, ◌%◌, ◌<◌, ◌≤◌, Bool, false, List, ◌++◌, length, take, drop, get_or, Bor, None, Some, count_by, refl, sym, ◌∙◌, ap, arith, subst, cond, fold, inl, inr, rules}
 use Rattle.std.specs.Prelude.{IsSome, Option, option_copied, sum_by, ◌==◌, if◌then◌else◌}
 use Rattle.ssd_geo.specs.Limits.{payload_bytes_of}
 use Rattle.ssd_geo.specs.Shape.{HasSizes}
@@ -15,7 +15,7 @@ use Rattle.ssd_geo.specs.PageHead.{data_of_word, payload_of_page}
 use Rattle.ssd_geo.proofs.Payloads.{payloads_give_their_bytes}
 use Rattle.std.proofs.lemmas.List.{take-append-drop}
 use Rattle.ssd_bits.proofs.Sums.{same-bytes}
-use Rattle.ssd_geo.specs.Codewords.{IsCodeword, IsOnlyCodewordOf, failed_checks, is_odd_row, payload_bits, word_bits}
+use Rattle.ssd_geo.specs.Codewords.{IsCodeword, failed_checks, is_odd_row, word_bits}
 
 -- no number of a range passes a test
 count_none : (test : ℕ → Bool) (a n : ℕ) → ((k : ℕ) → a ≤ k → k < a + n → test k ≡ false) → count_by test (range_with_len a n) ≡ 0

@@ -1,13 +1,13 @@
 -- The code of the device finds the word of a page in its first sense, and the word has the page's head.
-use Rattle.std.proofs.Common.{ℕ, zero, suc, ◌≡◌, ◌+◌, ◌-◌, ◌*◌, ◌<◌, ◌<ℤ◌, ◌≤ℤ◌, ◌++◌, get_or, replicate, ◌≤◌, ◌/◌, Bool, true, false, List, [], ◌∷◌, length, take, ℤ, pos, negsuc, Option, Some, None, option_map, refl, sym, ap, subst, ◌∙◌, arith}
+use Rattle.std.proofs.Common.{ℕ, zero, suc, ◌≡◌, ◌+◌, ◌-◌, ◌*◌, ◌<◌, ◌<ℤ◌, ◌≤ℤ◌, ◌++◌, get_or, replicate, ◌/◌, Bool, true, false, List, [], ◌∷◌, length, take, ℤ, pos, negsuc, Option, Some, None, option_map, refl, sym, ap, subst, ◌∙◌, arith}
 use Rattle.std.proofs.lemmas.Int.{ints}
 use Rattle.std.proofs.lemmas.List.FromFn.{length-map-range_with_len}
 use Rattle.std.specs.Prelude.{is_some, nat_eq, slice_range, ◌&&◌, if◌then◌else◌}
 use Rattle.std.specs.List.{AllByRecursion, starts_with}
 use Rattle.ssd_geo.specs.BaseMatrix.{BaseMatrix, IsAccepted}
 use Rattle.ssd_geo.specs.Bits.{IsOfBits, bit_of, bits_of, byte_of, bytes_of}
-use Rattle.ssd_geo.specs.Codewords.{BeginsWith, IsCodeword, IsOnlyCodewordOf, payload_bits, word_bits, word_of}
-use Rattle.ssd_geo.specs.Coding.{Coding, coding_of, matrix_of, payload_of, word_found}
+use Rattle.ssd_geo.specs.Codewords.{payload_bits, word_bits, word_of}
+use Rattle.ssd_geo.specs.Coding.{coding_of, matrix_of}
 use Rattle.ssd_geo.specs.Cells.{fresh_levels, sensed}
 use Rattle.ssd_geo.specs.Decoding.{decode}
 use Rattle.ssd_geo.specs.PageHead.{are_zeros, data_of_word, head_of_page, payload_of_page}
@@ -20,7 +20,7 @@ use Rattle.ldpc_encode.proofs.TheWord.{only-codeword}
 use Rattle.ssd_top.proofs.AcceptedWords.{data_of_word-begins, front_from_bits}
 use Rattle.ssd_top.proofs.FirstSense.{decode_codeword}
 use Rattle.ssd_top.proofs.NoiselessCells.{sensed-fresh}
-use Rattle.ssd_top.proofs.PageRun.{Reads, base_with, sense_with}
+use Rattle.ssd_top.proofs.PageRun.{Reads, base_with}
 
 -- a noiseless sense of a word's fresh cells is the word
 sensed_word : (law : CellLaw) (place erases : ℕ) (word : List ℕ) (at : ℤ) (bits : ℕ) → law.spread ≡ 0 → law.erased <ℤ at → at ≤ℤ law.programmed → 8 * length word ≡ bits → IsOfBits bits word → sensed at (fresh_levels law place erases word) ≡ word

@@ -1,6 +1,6 @@
 -- A sense that is a codeword is decoded to itself before the first iteration, and where the word that is found has the
 -- page's head, the first sense of a look decides its ladder.
-use Rattle.std.proofs.Common.{ℕ, zero, suc, ◌≡◌, ◌+◌, ◌*◌, Bool, true, false, List, [], ◌∷◌, map, length, ℤ, pos, negsuc, Option, Some, None, find, option_map, cond, refl, sym, ap, ◌∙◌, arith}
+use Rattle.std.proofs.Common.{ℕ, suc, ◌≡◌, ◌+◌, ◌*◌, Bool, true, false, List, [], ◌∷◌, length, ℤ, Option, Some, find, option_map, refl, ap, ◌∙◌, arith}
 use Rattle.std.specs.Prelude.{◌==◌}
 use Rattle.std.specs.List.{range_with_len}
 use Rattle.ssd_geo.specs.BaseMatrix.{BaseMatrix}
@@ -8,7 +8,7 @@ use Rattle.ssd_geo.specs.Bits.{IsOfBits, bit_of, bits_of, bytes_of}
 use Rattle.ssd_geo.specs.Codewords.{IsCodeword, failed_checks, is_codeword, word_bits}
 use Rattle.ssd_geo.specs.Coding.{Coding}
 use Rattle.ssd_geo.specs.Decoding.{decided, decided_after, decode}
-use Rattle.ssd_geo.specs.Ladder.{LadderState, PlaceState, accepted, asks, best_level, found, hard_work, ladder, place_work, recovered, soft_work, wants}
+use Rattle.ssd_geo.specs.Ladder.{PlaceState, accepted, asks, best_level, found, hard_work, ladder, place_work, recovered, soft_work, wants}
 use Rattle.ssd_geo.specs.RowRule.{is_negative}
 use Rattle.ssd_geo.specs.Senses.{hard_value, hard_values}
 use Rattle.ssd_geo.specs.declared.place.Place.{Place}

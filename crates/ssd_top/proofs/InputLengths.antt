@@ -1,11 +1,10 @@
 -- How long is an input that is served? At most 140 bytes.
 use Rattle.std.proofs.Common.{ℕ, ◌≡◌, ◌+◌, ◌*◌, ◌<◌, ◌≤◌, List, ◌++◌, length, length-append, take, Option, ap, arith, inl, inr, ◌∙◌}
-use Rattle.std.specs.Prelude.{◌⊎◌}
 use Rattle.std.specs.Io.KnownBytes.{Consumes, IsAtEnd}
 use Rattle.std.proofs.lemmas.Bool.Decides.{leb_tells}
 use Rattle.std.proofs.lemmas.List.{length-take-le}
 use Rattle.ssd_geo.specs.Numbers.{hex_of_bytes}
-use Rattle.ssd_top.specs.Input.{Asks, BeginsServed, IsServed, ending, input_of}
+use Rattle.ssd_top.specs.Input.{Asks, IsServed, ending, input_of}
 use Rattle.ssd_top.specs.Serving.{IsNotServed}
 use Rattle.ssd_top.proofs.Hexadecimal.{length-hex_of_bytes}
 

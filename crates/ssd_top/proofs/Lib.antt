@@ -9,3 +9,4 @@ mod PageHeadline
 mod PageInput
 mod PageRun
 mod PageText
+mod ServedRuns

@@ -1,7 +1,7 @@
 -- A write and a read of one page on the device keep what holds of every run.
-use Rattle.std.proofs.Common.{ℕ, zero, suc, ◌≡◌, ◌+◌, ◌-◌, ◌*◌, ◌<◌, ◌≤◌, ◌/◌, ◌%◌, Bool, true, false, List, [], ◌∷◌, ◌++◌, replicate, length, ℤ, pos, negsuc, Option, Some, None, refl, sym, ap, subst, ◌∙◌, arith, inl, inr}
-use Rattle.std.specs.Prelude.{IsTrue, IsSomeAnd, unwrap_or, ◌==◌, nat_lt, slice_get, slice_index_or, All, count_by}
-use Rattle.std.specs.List.{enumerate_from, list_all}
+use Rattle.std.proofs.Common.{ℕ, ◌≡◌, ◌-◌, ◌≤◌, ◌/◌, ◌%◌, false, List, [], ◌∷◌, ◌++◌, replicate, length, ℤ, pos, Some, None, refl, sym, ap, subst, arith}
+use Rattle.std.specs.Prelude.{IsTrue, unwrap_or, ◌==◌, nat_lt, All, count_by}
+use Rattle.std.specs.List.{list_all}
 use Rattle.std.specs.Option.{ForSome}
 use Rattle.std.proofs.lemmas.List.Elements.{All-nil, All-cons}
 use Rattle.ssd_geo.specs.BaseMatrix.{IsAccepted}
@@ -11,7 +11,7 @@ use Rattle.ssd_geo.specs.Coding.{coding_of, matrix_of}
 use Rattle.ssd_geo.specs.Copies.{IsRead}
 use Rattle.ssd_geo.specs.Rounds.{IsWrite}
 use Rattle.ssd_geo.specs.History.{look_made}
-use Rattle.ssd_geo.specs.ImageContents.{Saved, blank_channel}
+use Rattle.ssd_geo.specs.ImageContents.{blank_channel}
 use Rattle.ssd_geo.specs.ImageExamples.{small_head}
 use Rattle.ssd_geo.specs.Input.{Input}
 use Rattle.ssd_geo.specs.Lawful.{IsLawful}
@@ -30,7 +30,7 @@ use Rattle.ssd_geo.specs.declared.trace.Verb.TheVariants.{Read, Write}
 use Rattle.ssd_geo.proofs.TextLaws.{same_byte}
 use Rattle.ssd_top.specs.Headline.{BeginsAs, GivesLastWrite, GivesPlain, Headline, ReadsLastWrite, contents_in}
 use Rattle.ssd_top.specs.Output.{entry_of, first_slot, page_history, page_replies}
-use Rattle.ssd_top.proofs.PageRun.{Reads, base_with, contents_with, has_left, has_sensed, is_data, is_read, is_write, lawful_run, looked, read_steps, start_with, write_steps, written}
+use Rattle.ssd_top.proofs.PageRun.{Reads, base_with, has_left, has_sensed, is_data, is_read, is_write, lawful_run, looked, read_steps, start_with, write_steps, written}
 
 -- the entries of the device's base matrix, which aren't looked into where words are worked out
 pub device_entries : List ℤ
@@ -185,6 +185,7 @@ module _ (page : ℕ) (listed : List ℕ) (reads : Reads (coding_of (base_with d
   page_headline = record {
     runs = page_run page ∷ [];
     are_runs = (page_begins, tt);
+    as_many_actors = refl;
     are_printed = refl;
     are_lawful = holds_of_one (λ run. IsLawful run.start (contents_in (page_input page listed)) run.past) (page_run page) (lawful_run device_entries page (listed ++ replicate (8 - length listed) 0) reads);
     in_order = calls_in_order;

@@ -1,7 +1,7 @@
 -- An input that is served is read as the device's image and the two calls.
 use Rattle.std.proofs.Common.{ℕ, zero, suc, ◌≡◌, ◌+◌, ◌-◌, ◌*◌, ◌^◌, ◌<◌, ◌≤◌, ◌/◌, ◌%◌, Bool, true, false, not, ◌&&◌, List, [], ◌∷◌, ◌++◌, length, get_or, Option, Some, None, All, refl, sym, ap, ◌∙◌, arith}
-use Rattle.std.specs.Prelude.{◌==◌, nat_le, nat_lt, codes, slice_index, option_map, option_and_then, ok_or, if◌then◌else◌, Result, Ok, Err}
-use Rattle.std.specs.List.{AllByRecursion, list_all, slice_split, join_with_byte}
+use Rattle.std.specs.Prelude.{◌==◌, nat_le, codes, option_and_then, ok_or, if◌then◌else◌, Result, Ok}
+use Rattle.std.specs.List.{AllByRecursion, list_all}
 use Rattle.std.specs.Fmt.{digit_glyph}
 use Rattle.std.specs.Str.Lines.{strip_carriage_return}
 use Rattle.std.proofs.lemmas.Grind.{common_steps}
@@ -11,11 +11,11 @@ use Rattle.ssd_geo.specs.Fields.{Reading, Rest, ◌>>=◌, passing}
 use Rattle.ssd_geo.specs.ImageContents.{Saved, blank_channel, read_channels, read_image}
 use Rattle.ssd_geo.specs.ImageExamples.{small_head}
 use Rattle.ssd_geo.specs.ImageHead.{Head, IsHead, head_bytes, read_head}
-use Rattle.ssd_geo.specs.Input.{Input, at_image, at_trace, read_input}
+use Rattle.ssd_geo.specs.Input.{at_image, at_trace, read_input}
 use Rattle.ssd_geo.specs.InputFaults.{TraceFault}
 use Rattle.ssd_geo.specs.InputFaults as faults
 use Rattle.ssd_geo.specs.Lines.{Line, is_line_of_words, is_plain, is_skipped, lines_in, lines_of_parts, words_in}
-use Rattle.ssd_geo.specs.Numbers.{Text, bytes_of_hex, hex_of_byte, hex_of_bytes}
+use Rattle.ssd_geo.specs.Numbers.{Text, hex_of_bytes}
 use Rattle.ssd_geo.specs.TraceText.{are_few_calls, numbered, call_of_words, calls_of_lines, calls_with, content_word, is_short_line, line_words, page_word, read_trace, trace_of_lines}
 use Rattle.ssd_geo.specs.declared.trace.Content.{Content}
 use Rattle.ssd_geo.specs.declared.trace.Content.TheVariants.{Listed}

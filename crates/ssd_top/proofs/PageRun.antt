@@ -1,11 +1,11 @@
 -- The run of a write and a read of one page on the blank channel: its history is lawful, its calls are whole, and its replies
 -- are those of its calls. The base matrix stands as a list that isn't looked into, and what is known of its code is handed in.
-use Rattle.std.proofs.Common.{ℕ, zero, suc, ◌≡◌, ◌+◌, ◌*◌, ◌<◌, ◌/◌, Bool, true, false, List, [], ◌∷◌, replicate, length, ℤ, pos, negsuc, Option, Some, None, refl, sym, ap, ◌∙◌, arith, inl, inr}
-use Rattle.std.specs.Prelude.{IsTrue, ◌==◌, ◌||◌, nat_lt, slice_index_or}
+use Rattle.std.proofs.Common.{ℕ, ◌≡◌, ◌<◌, Bool, true, false, List, [], ◌∷◌, replicate, ℤ, pos, negsuc, Option, Some, None, refl, sym, ap, inl, inr}
+use Rattle.std.specs.Prelude.{IsTrue, ◌||◌, slice_index_or}
 use Rattle.ssd_geo.specs.Cells.{fresh_levels, sensed}
 use Rattle.ssd_geo.specs.Ladder.{LadderState, has_answer, other_places, recovered}
 use Rattle.ssd_top.proofs.FirstSense.{ladder_asks, ladder_of_first}
-use Rattle.std.proofs.lemmas.List.Elements.{All-nil, All-cons}
+use Rattle.std.proofs.lemmas.List.Elements.{All-nil}
 use Rattle.ssd_geo.specs.Blocks.{blank_block}
 use Rattle.ssd_geo.specs.CallSteps.{CallStep}
 use Rattle.ssd_geo.specs.Copies.{IsRead}
@@ -27,7 +27,7 @@ use Rattle.ssd_geo.specs.declared.tag.Tag.{Tag}
 use Rattle.ssd_geo.proofs.Sizes.{faultless_sizes_are_within}
 use Rattle.ssd_geo.proofs.SpelledHeads.{below_if}
 use Rattle.ssd_geo.proofs.TextLaws.{same_byte}
-use Rattle.ssd_top.specs.Output.{entry_of, first_slot, page_history}
+use Rattle.ssd_top.specs.Output.{entry_of, first_slot}
 
 -- the sizes of the device are within the limits
 pub within : IsWithinLimits 1 3 4 2 64 3 6 8 8

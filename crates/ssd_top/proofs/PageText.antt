@@ -1,5 +1,5 @@
 -- The text of a run that holds the lists of a page's write and read.
-use Rattle.std.proofs.Common.{ℕ, ◌≡◌, true, List, [], ◌∷◌, refl, ap, ◌∙◌}
+use Rattle.std.proofs.Common.{ℕ, ◌≡◌, true, List, [], ◌∷◌, ap, ◌∙◌}
 use Rattle.ssd_geo.specs.RunText.{run_text}
 use Rattle.ssd_geo.specs.declared.entry.Entry.{Entry}
 use Rattle.ssd_geo.specs.declared.reply.CallKind.{CallKind}

@@ -3,10 +3,10 @@
 -- which for a read is the answer of the ladder over the senses; and where the page that a read looked at, and all copies by
 -- which it came to its slot, were recovered, the read gives the data of the row's latest write. The words are those of
 -- every input, with any number of channels, actors and calls.
-use Rattle.std.specs.Prelude.{ℕ, ◌≡◌, ◌+◌, ◌%◌, Bool, true, IsTrue, is_some, List, [], ◌∷◌, length, map, Result, Ok, All, ⊤}
+use Rattle.std.specs.Prelude.{ℕ, ◌≡◌, ◌+◌, ◌%◌, true, IsTrue, is_some, List, [], ◌∷◌, length, map, Ok, All, ⊤}
 use Rattle.std.specs.List.{list_all}
 use Rattle.std.specs.Option.{ForSome}
-use Rattle.ssd_geo.specs.CallSteps.{CallStep, position_of}
+use Rattle.ssd_geo.specs.CallSteps.{position_of}
 use Rattle.ssd_geo.specs.CallsInOrder.{AreCallsInOrder, AreReplies, ChannelRun, OfRun, reply_to, steps_on}
 use Rattle.ssd_geo.specs.Coding.{coding_of}
 use Rattle.ssd_geo.specs.History.{history_of, look_made}
@@ -23,7 +23,6 @@ use Rattle.ssd_geo.specs.declared.entry.Entry.{Entry}
 use Rattle.ssd_geo.specs.declared.look.Look.{Look}
 use Rattle.ssd_geo.specs.declared.reply.Reply.{Reply}
 use Rattle.ssd_geo.specs.declared.tag.Tag.{Tag}
-use Rattle.ssd_geo.specs.declared.trace.TraceCall.{TraceCall}
 use Rattle.ssd_geo.specs.declared.trace.Verb.{Verb}
 
 -- a start is as an image gives a channel: its base, and the cells of its dies. The limit of the history, the counts of
@@ -68,6 +67,7 @@ ReadsLastWrite contents runs tag verb reply = ⊤
 pub record Headline (input : Input) (histories : List (List Entry)) (replies : List (List Reply)) : Type 0 where
   pub runs : List ChannelRun
   pub are_runs : AreRunsOf input.head 0 input.channels runs
+  pub as_many_actors : length replies ≡ input.calls.actors
   pub are_printed : histories ≡ map (λ run. history_of run.past) runs
   pub are_lawful : All (λ run. IsLawful run.start (contents_in input) run.past) runs
   pub in_order : AreCallsInOrder (contents_in input) input.calls.calls replies runs

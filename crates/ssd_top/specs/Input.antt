@@ -1,6 +1,6 @@
 -- Which inputs are served today? The image of one small blank device, and a trace of three lines by one actor: its first
 -- line, a write of a page with listed data, and a read of the same page. Each line ends with LF.
-use Rattle.std.specs.Prelude.{◌≡◌, ℕ, ◌+◌, ◌-◌, ◌<◌, ◌≤◌, List, [], ◌∷◌, ◌++◌, length, replicate, codes, Option, IfSome}
+use Rattle.std.specs.Prelude.{◌≡◌, ℕ, ◌+◌, ◌-◌, ◌<◌, ◌≤◌, List, ◌∷◌, ◌++◌, length, replicate, codes}
 use Rattle.std.specs.List.{AllByRecursion}
 use Rattle.ssd_geo.specs.Numbers.{hex_of_bytes}
 use Rattle.ssd_top.specs.declared.input.TheConstants.{DEVICE}

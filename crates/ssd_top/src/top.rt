@@ -2,7 +2,7 @@ ghost use Rattle.std.specs.Prelude.{◌≡◌, ◌≢◌, ◌↔◌, ◌⊎◌, 
 ghost use Rattle.std.specs.Io.KnownBytes.{Appends};
 ghost use Rattle.ssd_geo.specs.Faults.{NeverFell, Rose};
 ghost use Rattle.ssd_io.specs.Pieces.{AppendsFront};
-ghost use Rattle.ssd_top.specs.Serving.{IsNotServed, Serves};
+ghost use Rattle.ssd_top.specs.Serving.{IsNotServed, RunsInput, Serves};
 
 use crate::Status;
 use crate::input::{START, request_of};
@@ -35,6 +35,13 @@ pub fn run<S: Source, O: Sink>(
     ensures done { result ≡ Status.Done → Serves (S.left input.old) (S.left input.new)
         (Appends (O.written output.old) (O.written output.new)) }
     ensures front { result ≡ Status.WriteFault → Serves (S.left input.old) (S.left input.new)
+        (AppendsFront (O.written output.old) (O.written output.new)) }
+
+    // It is the text, or a front of it, of a lawful run of what was read: each call once, in its actor's order, each reply
+    // that of its entries, and each page that was recovered the last write's.
+    ensures headline { result ≡ Status.Done → RunsInput (S.left input.old) (S.left input.new)
+        (Appends (O.written output.old) (O.written output.new)) }
+    ensures headline_front { result ≡ Status.WriteFault → RunsInput (S.left input.old) (S.left input.new)
         (AppendsFront (O.written output.old) (O.written output.new)) }
 
     // What was read isn't such an input, and can't become one.

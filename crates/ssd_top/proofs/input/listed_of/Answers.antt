@@ -1,5 +1,4 @@
-use Rattle.std.proofs.Common.{◌≡◌, ◌<◌, ◌*◌, length, get_or, length-set, arith, ap, sym, ◌∙◌}
-use Rattle.ssd_geo.specs.Numbers.{hex_of_byte}
+use Rattle.std.proofs.Common.{◌<◌, length, get_or, length-set, arith, ap, ◌∙◌}
 use Rattle.ssd_top.proofs.Hexadecimal.{length-hex_of_bytes, pair_at, small_at, small-append, hex_more, zeros_more}
 use Rattle.std.proofs.lemmas.List.{take_more_set}
 use Rattle.ssd_top.proofs.input.listed_of.Goals as goal

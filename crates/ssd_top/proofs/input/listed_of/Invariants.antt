@@ -1,4 +1,4 @@
-use Rattle.std.proofs.Common.{◌≡◌, ◌+◌, ◌*◌, ◌-◌, ◌<◌, ◌≤◌, take, drop, replicate, length}
+use Rattle.std.proofs.Common.{◌≡◌, ◌*◌, ◌-◌, ◌<◌, take, drop, replicate, length}
 use Rattle.std.specs.List.{AllByRecursion}
 use Rattle.ssd_geo.specs.Numbers.{hex_of_bytes}
 use Rattle.ssd_top.proofs.input.listed_of.Given as goal

@@ -1,4 +1,4 @@
-use Rattle.std.proofs.Common.{◌≡◌, List, ℕ, OnErr, OnOk, subst, ◌∙◌}
+use Rattle.std.proofs.Common.{List, ℕ, OnErr, OnOk, subst, ◌∙◌}
 use Rattle.std.specs.Io.KnownBytes.{Appends}
 use Rattle.ssd_io.specs.Pieces.{AppendsFront}
 use Rattle.ssd_top.proofs.PageText.{page_text-of}
