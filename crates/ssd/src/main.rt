@@ -6,20 +6,24 @@ use ssd_geo::Word;
 use ssd_io::{ReadSource, WriteSink};
 use ssd_top::{Status, run, status_text};
 use std::alloc::AllocError;
-use std::io::{self, BufWriter, Write};
+use std::io::{self, BufWriter, ErrorKind, Write};
 use std::process::ExitCode;
 use std::rt::Env;
 
-// The words of the command line behind the program's own. A list that can't be had has no word, and is refused.
+// The words of the command line behind the program's own. A list that can't be had has no word, and so is refused,
+// but for one that wants for memory.
 fn words_of<R: Env + AllocGlobal>(rt: &R) -> Result<Vec<Word>, AllocError> {
     let mut words = Vec::new(rt.alloc());
-    let Ok(args) = std::env::args(rt) else {
-        return Ok(words);
-    };
-    for text in args.skip(1) {
-        words.push(Word::new(text))?;
+    match std::env::args(rt) {
+        Ok(args) => {
+            for text in args.skip(1) {
+                words.push(Word::new(text))?;
+            }
+            Ok(words)
+        }
+        Err(error) if error.kind() == ErrorKind::OutOfMemory => Err(AllocError),
+        Err(_) => Ok(words),
     }
-    Ok(words)
 }
 
 // Serves the words over the standard streams. What was written is flushed before the status is told.
