@@ -1,0 +1,17 @@
+pub mod AnsweredCalls
+pub mod BegunRuns
+pub mod BlankRows
+pub mod ChangedRuns
+pub mod FirstLadders
+pub mod GrownPasts
+pub mod LookSenses
+pub mod LookedPasts
+pub mod MadeCalls
+pub mod MadeReads
+pub mod NewCalls
+pub mod NumberedCalls
+pub mod ReadPages
+pub mod RunHeadline
+pub mod ServedNext
+pub mod WholeCalls
+pub mod WrittenPages

@@ -1,0 +1,4 @@
+pub mod Headline
+pub mod ServedCalls
+pub mod ServedPasts
+pub mod ServedRuns

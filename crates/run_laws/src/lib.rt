@@ -1,0 +1,9 @@
+//! What holds of a whole run, and the laws by which it holds where calls are served one after the other. It has no code
+//! that runs: each law is the contract of a function that does nothing.
+#![tactic(auto)]
+
+mod pages;
+mod serving;
+
+pub use pages::{no_page_is_lost, pages_are_read_at_once};
+pub use serving::{served_runs_hold, serves_one_more, serving_begins, tags_give_data};
