@@ -1,0 +1,68 @@
+-- A head whose parts are in range has a spelling.
+use Rattle.std.proofs.Common.{◌≡◌, refl, ℕ, ℤ, suc, ◌-◌, ◌^◌, ◌<◌, Bool, true, false, List, [], ◌∷◌, arith, ap, sym, ◌∙◌, subst}
+use Rattle.std.proofs.lemmas.Grind.{common_steps}
+use Rattle.std.proofs.lemmas.Int.{ints}
+use Rattle.std.specs.Prelude.{FitsSigned, pos, negsuc, nat_lt, IsTrue, None, Option, is_none, if◌then◌else◌}
+use Rattle.std.specs.Int.{w16, from_le_bytes, cast_signed}
+use Rattle.std.specs.List.{list_all}
+use Rattle.ssd_geo.specs.BaseMatrix.{IsAccepted, first_fault}
+use Rattle.ssd_geo.specs.Fields.{is_within, is_below, is_signed_within}
+use Rattle.ssd_geo.specs.ImageHead.{IsHead, is_short, is_programmed_level, signed_numbers, head_of, matrix_of, sizes_of}
+use Rattle.ssd_geo.specs.declared.cell_law.CellLaw.{CellLaw}
+use Rattle.ssd_geo.specs.declared.head.ImageHead.{ImageHead}
+use Rattle.image_file.specs.Fixed.{AreFixed, AreSizes, fixed_of}
+use Rattle.image_file.specs.Lists.{AreLevels, AreBlocks}
+use Rattle.image_file.specs.declared.fixed.FixedFields.{FixedFields}
+
+fits_short : (n : ℤ) → FitsSigned w16 n → is_short n ≡ true
+fits_short (pos n) h = let small : n < 2 ^ 15 = h.sfits in grind (arith, common_steps, ints)
+fits_short (negsuc n) h = let small = h.sfits in grind (arith, common_steps, ints)
+
+picked_short : (b : Bool) (n : ℕ) → nat_lt n (2 ^ 15) ≡ b → is_short (if b then pos n else negsuc (2 ^ 16 - suc n)) ≡ true
+picked_short true n e = fits_short (pos n) (record { sfits = grind (arith, common_steps) })
+picked_short false n e = fits_short (negsuc (2 ^ 16 - suc n)) (record { sfits = grind (arith, common_steps) })
+
+signed_short : (n : ℕ) → is_short (cast_signed w16 n) ≡ true
+signed_short n = picked_short (nat_lt n (2 ^ 15)) n refl
+
+-- numbers that two bytes spell fit 16 bits
+pub all_short : (bytes : List ℕ) → list_all is_short (signed_numbers bytes) ≡ true
+all_short [] = refl
+all_short (low ∷ []) = refl
+all_short (low ∷ high ∷ bytes) = rw (signed_short (from_le_bytes w16 (low ∷ high ∷ [])), all_short bytes) refl
+
+none_is : {A : Type 0} (x : Option A) → IsTrue (is_none x) → x ≡ None
+none_is x none = grind (arith, common_steps)
+
+-- the head with these parts
+pub head_is : (fixed : FixedFields) (head : ImageHead) → fixed.shape ≡ head.shape → fixed.iterations ≡ head.iterations → fixed.law ≡ head.law → fixed.step ≡ head.step → fixed.session ≡ head.session → AreFixed (fixed_of fixed) → AreLevels fixed.levels head.read_levels → IsTrue (list_all is_short head.entries) → IsAccepted (matrix_of (head_of head)) → AreBlocks (sizes_of head.shape) head.weak head.bad → IsHead (head_of head)
+head_is fixed head same_shape same_iterations same_law same_step same_session are levels short accepted blocks =
+    let sizes = subst (λ s. AreSizes (sizes_of s)) same_shape are.sizes in
+    record {
+      channels = sizes.channels;
+      dies = sizes.dies;
+      superblocks = sizes.superblocks;
+      pages = sizes.pages;
+      lifting = sizes.lifting;
+      base_rows = sizes.base_rows;
+      base_columns = sizes.base_columns;
+      level_count = ap (is_within 1 16) levels.count ∙ are.level_count;
+      iterations = ap (is_within 1 64) (sym same_iterations) ∙ are.iterations;
+      bytes = sizes.bytes;
+      rows = sizes.rows;
+      seed = subst (λ (l : CellLaw). IsTrue (is_below (2 ^ 64) l.seed)) same_law are.seed;
+      session = ap (is_below (2 ^ 24)) (sym same_session) ∙ are.session;
+      erased = subst (λ (l : CellLaw). IsTrue (is_signed_within (negsuc 8191) (pos 8190) l.erased)) same_law are.erased;
+      programmed = subst (λ (l : CellLaw). IsTrue (is_programmed_level l.erased l.programmed)) same_law are.programmed;
+      spread = subst (λ (l : CellLaw). IsTrue (is_within 0 4095 l.spread)) same_law are.spread;
+      step = ap (is_within 1 2047) (sym same_step) ∙ are.step;
+      levels = levels.within;
+      entries = short;
+      entry_count = accepted.within.entries;
+      faultless = none_is (first_fault (matrix_of (head_of head))) accepted.faultless;
+      weak_count = blocks.weak_count;
+      weak_from = blocks.are_weak.from;
+      weak = blocks.are_weak.records;
+      bad_count = blocks.bad_count;
+      bad = blocks.are_bad.records;
+    }

@@ -1,0 +1,10 @@
+mod Fields
+mod Filling
+mod FixedParts
+mod HeadInParts
+mod HeadRanges
+mod LevelSteps
+mod ListRanges
+mod MatrixSteps
+mod SpelledFields
+mod WriteSteps

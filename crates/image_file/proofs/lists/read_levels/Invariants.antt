@@ -1,0 +1,13 @@
+use Rattle.std.proofs.Common.{◌+◌, ◌*◌, ◌-◌, ◌≡◌, ◌≤◌, []}
+use Rattle.ssd_geo.specs.Fields.{level_fields}
+use Rattle.image_file.specs.Gives.{IsTold, rest_at}
+use Rattle.image_file.specs.Lists.{AreLevels}
+use Rattle.image_file.proofs.lists.read_levels.Given as goal
+
+abbrev pub invariant-loop-i : goal.invariant-loop-i
+invariant-loop-i g l = record {
+  told : IsTold (g.S.Source.left l.initial.input) → IsTold (g.S.Source.left l.input);
+  read : IsTold (g.S.Source.left l.initial.input) → level_fields (l.count - l.i) l.levels.items (rest_at (l.place + 2 * l.i) (g.S.Source.left l.input)) ≡ level_fields l.count [] (rest_at l.place (g.S.Source.left l.initial.input));
+  good : AreLevels l.i l.levels.items;
+  never_fell : g.S.Source.faults l.initial.input ≤ g.S.Source.faults l.input;
+}

@@ -1,0 +1,224 @@
+//! Heads of images, against bytes and faults worked out by hand.
+use super::*;
+use ssd_geo::{CellLaw, ImageHead, Items, Shape, Weak};
+use ssd_io::{Failed, MemSink, MemSource, Source, SureSource};
+use std::alloc::Global;
+use std::test::Fail;
+
+// A blank image of 1 channel with 3 dies, 4 superblocks and pages of 48 bytes, without weak or bad blocks.
+const IMAGE: [u8; 93] = [
+    0x53, 0x53, 0x44, 0x49, 0x4d, 0x47, 0x30, 0x31, 0x01, 0x03, 0x04, 0x00, 0x02, 0x00, 0x40, 0x00,
+    0x03, 0x06, 0x02, 0x08, 0x08, 0x00, 0x00, 0x00, 0x08, 0x00, 0x00, 0x00, 0x01, 0x00, 0x00, 0x00,
+    0x00, 0x00, 0x00, 0x00, 0x00, 0x00, 0x00, 0x00, 0x9c, 0xff, 0x64, 0x00, 0x00, 0x00, 0x0a, 0x00,
+    0x00, 0x00, 0xc4, 0xff, 0x00, 0x00, 0x01, 0x00, 0xff, 0xff, 0x01, 0x00, 0x00, 0x00, 0xff, 0xff,
+    0x05, 0x00, 0xff, 0xff, 0x07, 0x00, 0x00, 0x00, 0x00, 0x00, 0x00, 0x00, 0xff, 0xff, 0x0b, 0x00,
+    0x03, 0x00, 0x01, 0x00, 0xff, 0xff, 0x00, 0x00, 0x00, 0x00, 0x00, 0x00, 0x00,
+];
+
+// Its head, with these weak and bad blocks.
+fn head_with(
+    alloc: Global,
+    rows: u32,
+    weak: Vec<Weak>,
+    bad: Vec<(u8, u16)>,
+    full: bool,
+    place: u64,
+) -> Result<ImageHead, Fail> {
+    let entries = vec![in alloc; 0, 1, -1, 1, 0, -1, 5, -1, 7, 0, 0, 0, -1, 11, 3, 1, -1, 0]?;
+    Ok(ImageHead {
+        shape: Shape::new(1, 3, 4, 2, 64, 3, 6, 8, rows)?,
+        read_levels: Items::new(vec![in alloc; 0, -60]?),
+        iterations: 8,
+        law: CellLaw {
+            erased: -100,
+            programmed: 100,
+            spread: 0,
+            seed: 1,
+        },
+        step: 10,
+        session: 0,
+        entries: Items::new(entries),
+        weak: Items::new(weak),
+        bad: Items::new(bad),
+        full,
+        place,
+    })
+}
+
+// An image with other bytes from a place on.
+fn image_with(alloc: Global, image: &[u8], at: usize, others: &[u8]) -> Result<Vec<u8>, Fail> {
+    let mut bytes = Vec::new(alloc);
+    for byte in image.iter().take(at) {
+        bytes.push(*byte)?;
+    }
+    bytes.extend_from_slice(others)?;
+    for byte in image.iter().skip(at).skip(others.len()) {
+        bytes.push(*byte)?;
+    }
+    Ok(bytes)
+}
+
+#[test]
+fn a_head_is_read_and_what_follows_is_left(rt: HostRuntime) -> Result<(), Fail> {
+    let alloc = rt.alloc();
+    let mut source = SureSource::new(image_with(alloc, &IMAGE, 93, &[7])?);
+    let want = head_with(alloc, 8, Vec::new(alloc), Vec::new(alloc), false, 93)?;
+    assert_eq!(rt; read_head(alloc, &mut source), Ok(want));
+    let mut next = [0; 2];
+    assert_eq!(rt; source.read(&mut next), Ok(1));
+    assert_eq!(rt; next, [7, 0]);
+    Ok(())
+}
+
+#[test]
+fn weak_and_bad_blocks_are_read(rt: HostRuntime) -> Result<(), Fail> {
+    let alloc = rt.alloc();
+    let mut few_rows = IMAGE;
+    few_rows[24] = 4;
+    let lists = [
+        2, 0, 0, 0, 2, 0, 7, 0, 0, 0, 0, 2, 1, 0, 0, 0, 0, 1, 1, 0, 0, 0, 3, 0, 1,
+    ];
+    let weak = vec![in alloc;
+        Weak {
+            channel: 0,
+            die: 0,
+            sb: 2,
+            from: 7
+        },
+        Weak {
+            channel: 0,
+            die: 2,
+            sb: 1,
+            from: 1 << 24
+        },
+    ]?;
+    let want = head_with(alloc, 4, weak, vec![in alloc; (0, 3)]?, true, 113)?;
+    let mut source = SureSource::new(image_with(alloc, &few_rows, 88, &lists)?);
+    assert_eq!(rt; read_head(alloc, &mut source), Ok(want));
+    Ok(())
+}
+
+#[test]
+fn a_short_head_ends_at_its_length(rt: HostRuntime) -> Result<(), Fail> {
+    let alloc = rt.alloc();
+    for n in 0..93 {
+        let want = ReadStop::Fault {
+            at: n as u64,
+            fault: ImageFault::Short,
+        };
+        let mut source = SureSource::new(IMAGE[..n].to_vec(alloc)?);
+        assert_eq!(rt; read_head(alloc, &mut source), Err(want));
+    }
+    Ok(())
+}
+
+#[test]
+fn first_faults_are_named(rt: HostRuntime) -> Result<(), Fail> {
+    let alloc = rt.alloc();
+    let mut few_rows = IMAGE;
+    few_rows[24] = 4;
+    let cases: [(usize, &[u8], u64, ImageFault); 18] = [
+        (0, &[0x54], 0, ImageFault::Magic),
+        (8, &[0], 8, ImageFault::Range),
+        (16, &[2], 16, ImageFault::Range),
+        (17, &[3], 17, ImageFault::Range),
+        (42, &[0x9c, 0xff], 42, ImageFault::Range),
+        (52, &[0x40, 0], 52, ImageFault::Entry),
+        (60, &[1, 0], 60, ImageFault::Diagonal),
+        (58, &[0xff, 0xff], 58, ImageFault::Parity),
+        (92, &[2], 92, ImageFault::Range),
+        (88, &[1, 0, 0, 3, 0, 0, 7, 0, 0, 0], 91, ImageFault::Range),
+        (88, &[1, 0, 0, 0, 4, 0, 7, 0, 0, 0], 92, ImageFault::Range),
+        (
+            88,
+            &[2, 0, 0, 1, 0, 0, 7, 0, 0, 0, 0, 0, 3, 0, 7, 0, 0, 0],
+            98,
+            ImageFault::Order,
+        ),
+        (
+            88,
+            &[2, 0, 0, 1, 0, 0, 7, 0, 0, 0, 0, 1, 0, 0, 8, 0, 0, 0],
+            98,
+            ImageFault::Order,
+        ),
+        (
+            88,
+            &[2, 0, 0, 1, 0, 0, 7, 0, 0, 0, 0, 0, 3, 0, 7, 0, 0],
+            105,
+            ImageFault::Short,
+        ),
+        (88, &[0, 0, 1, 0, 0, 1, 0, 0], 93, ImageFault::Range),
+        (
+            88,
+            &[0, 0, 2, 0, 0, 0, 3, 0, 0, 0, 3, 0],
+            96,
+            ImageFault::Order,
+        ),
+        (
+            88,
+            &[0, 0, 2, 0, 0, 0, 2, 0, 0, 0, 3, 0],
+            96,
+            ImageFault::Range,
+        ),
+        (88, &[0, 0, 0, 0, 2], 92, ImageFault::Range),
+    ];
+    for (from, others, at, fault) in cases {
+        let mut source = SureSource::new(image_with(alloc, &few_rows, from, others)?);
+        let want = ReadStop::Fault { at, fault };
+        assert_eq!(rt; read_head(alloc, &mut source), Err(want), "from {from}");
+    }
+    Ok(())
+}
+
+// The first bad superblock leaves no room for 8 rows.
+#[test]
+fn rows_that_no_longer_fit_are_refused(rt: HostRuntime) -> Result<(), Fail> {
+    let alloc = rt.alloc();
+    let bytes = image_with(alloc, &IMAGE, 88, &[0, 0, 1, 0, 0, 0, 0, 0])?;
+    let want = ReadStop::Fault {
+        at: 92,
+        fault: ImageFault::Range,
+    };
+    assert_eq!(rt; read_head(alloc, &mut SureSource::new(bytes)), Err(want));
+    Ok(())
+}
+
+#[test]
+fn a_failed_read_is_answered(rt: HostRuntime) -> Result<(), Fail> {
+    let alloc = rt.alloc();
+    for call in [1, 2, 24] {
+        let mut source = MemSource::new(IMAGE.to_vec(alloc)?, vec![in alloc; call]?);
+        assert_eq!(rt; read_head(alloc, &mut source), Err(ReadStop::ReadFault));
+    }
+    Ok(())
+}
+
+// The sink has room for so many bytes, and one of its calls fails, counted from 1.
+#[test]
+fn a_head_is_written_as_it_was_read(rt: HostRuntime) -> Result<(), Fail> {
+    let alloc = rt.alloc();
+    let mut few_rows = IMAGE;
+    few_rows[24] = 4;
+    let lists = [
+        2, 0, 0, 0, 2, 0, 7, 0, 0, 0, 0, 2, 1, 0, 0, 0, 0, 1, 1, 0, 0, 0, 3, 0, 1,
+    ];
+    for (room, call, want, written) in [
+        (120, 0, Ok(()), 113),
+        (113, 0, Ok(()), 113),
+        (112, 0, Err(Failed), 112),
+        (0, 0, Err(Failed), 0),
+        (120, 3, Err(Failed), 48),
+    ] {
+        let bytes = image_with(alloc, &few_rows, 88, &lists)?;
+        let mut sink = MemSink::new(alloc, vec![in alloc; call]?, room)?;
+        let head = read_head(alloc, &mut SureSource::new(bytes));
+        assert!(rt; head.is_ok());
+        if let Ok(head) = head {
+            assert_eq!(rt; write_head(&mut sink, &head), want);
+        }
+        let bytes = image_with(alloc, &few_rows, 88, &lists)?;
+        assert!(rt; bytes.starts_with(sink.bytes()));
+        assert_eq!(rt; sink.bytes().len(), written);
+    }
+    Ok(())
+}
