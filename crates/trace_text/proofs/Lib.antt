@@ -1,0 +1,14 @@
+pub mod Arguments
+pub mod CallCounts
+pub mod Cuts
+pub mod Digits
+pub mod DueSteps
+pub mod Feeds
+pub mod HeldBytes
+pub mod HexPairs
+pub mod LineSteps
+pub mod Numbering
+pub mod ReadSteps
+pub mod Results
+pub mod TraceSteps
+pub mod Pages

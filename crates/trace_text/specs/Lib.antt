@@ -1,0 +1,12 @@
+pub mod Answers
+pub mod Arguments
+pub mod BytesAhead
+pub mod CallSteps
+pub mod DueLines
+pub mod LineTexts
+pub mod NumberedCalls
+pub mod ReadLines
+pub mod ReadTraces
+pub mod Spelled
+pub mod Windows
+pub mod WordsLeft
