@@ -1,0 +1,116 @@
+-- The entry of each step is lawful over the past of a channel that stands for a start.
+use Rattle.std.proofs.Common.{◌≡◌, ℕ, ◌<◌, nat_lt, ◌&&◌, ◌||◌, not, Bool, true, false, List, [], ◌∷◌, ◌∙◌, ap, Option, Some, None, refl, arith}
+use Rattle.std.specs.Prelude.{IsTrue, IsFalse, IsSome, IsSomeAnd, ℤ}
+use Rattle.std.specs.List.{list_any}
+use Rattle.std.proofs.lemmas.Bool.Decides.{nat_tests}
+use Rattle.std.proofs.lemmas.List.FromFn.{get_or-map-range_with_len}
+use Rattle.ssd_geo.specs.Blocks as Blocks
+use Rattle.ssd_geo.specs.History.{look_by, open_look}
+use Rattle.ssd_geo.specs.Ladder.{LadderState, asks, has_answer}
+use Rattle.ssd_geo.specs.Lawful.{IsLawfulEntry, IsLawfulLeave, IsLawfulSense, has_fault_sense, is_closed_page}
+use Rattle.ssd_geo.specs.PageMap.{row_at}
+use Rattle.ssd_geo.specs.PastBlocks.{blocks_of, erases_of}
+use Rattle.ssd_geo.specs.PastRows.{row_of, rows_of}
+use Rattle.ssd_geo.specs.Ranges.{has_place, has_row, has_slot}
+use Rattle.ssd_geo.specs.SerialCalls.{entry_of}
+use Rattle.ssd_geo.specs.Stripe.{is_closed, stripe_of_index}
+use Rattle.ssd_geo.specs.WeakDies.{dies_of_program, is_listed, is_none_weak, is_weak}
+use Rattle.ssd_geo.specs.declared.base.BlockBase.{BlockBase}
+use Rattle.ssd_geo.specs.declared.base.ChannelBase.{ChannelBase}
+use Rattle.ssd_geo.specs.declared.entry.Entry.{Entry}
+use Rattle.ssd_geo.specs.declared.kind.Kind.{Kind}
+use Rattle.ssd_geo.specs.declared.look.Look.{Look}
+use Rattle.ssd_geo.specs.declared.place.Place.{Place}
+use Rattle.ssd_geo.specs.declared.row.Row.{Row}
+use Rattle.ssd_geo.specs.declared.shape.Shape.{Shape}
+use Rattle.ssd_geo.specs.declared.slot.Slot.{Slot}
+use Rattle.ssd_geo.specs.declared.tag.Tag.{Tag}
+use Rattle.ssd_geo.proofs.UsedSlots.{block_is}
+use Rattle.chan_state.specs.TablesState.{is_closed_row}
+
+-- both tests hold
+both : (a b : Bool) → a ≡ true → b ≡ true → (a && b) ≡ true
+both true b p q = q
+both false b p q = p
+
+below_is : (a b : ℕ) → a < b → nat_lt a b ≡ true
+below_is a b h = grind (arith, nat_tests)
+
+some_and : {A : Type 0} (P : A → Type 0) (o : Option A) → IsSome o → ((x : A) → P x) → IsSomeAnd o P
+some_and P None some h = cc
+some_and P (Some x) some h = h x
+
+-- an open look of a call is open
+pub open_of_call : (tag : Tag) (o : Option (Tag × Look)) → IsSome (look_by tag o) → IsSome o
+open_of_call tag None some = some
+open_of_call tag (Some found) some = refl
+
+pub lawful_trim : (state : ℕ → LadderState) (base : ChannelBase) (past : List Entry) (tag : Tag) (row : ℕ) → row < base.shape.rows
+    → IsLawfulEntry state base past (entry_of tag (Kind.Trim row))
+lawful_trim state base past tag row lt = record { in_range = below_is row base.shape.rows lt; meets = tt }
+
+pub lawful_leave : (state : ℕ → LadderState) (base : ChannelBase) (past : List Entry) (tag : Tag) (at : ℕ) → IsSome (open_look past tag at) → IsTrue (has_answer (state at))
+    → IsLawfulEntry state base past (entry_of tag (Kind.Leave at))
+lawful_leave state base past tag at some answered = record {
+  in_range = refl;
+  meets = some_and (λ look. IsLawfulLeave (state at) past at) (open_look past tag at) some (λ look. first (has_answer (state at)) (has_fault_sense past at) answered);
+}
+  where
+    first : (a b : Bool) → a ≡ true → (a || b) ≡ true
+    first true b h = refl
+    first false b h = absurd (grind arith)
+
+pub lawful_sense : (state : ℕ → LadderState) (base : ChannelBase) (past : List Entry) (tag : Tag) (at : ℕ) (place : Place) (level : ℤ) → IsTrue (has_place base.shape place)
+    → IsSome (open_look past tag at) → IsFalse (has_fault_sense past at) → state at ≡ asks place level
+    → IsLawfulEntry state base past (entry_of tag (Kind.Sense at place level))
+lawful_sense state base past tag at place level range some none asked = record {
+  in_range = range;
+  meets = some_and (λ look. IsLawfulSense (state at) past at place level) (open_look past tag at) some
+      (λ look. record { no_fault = ap {B = Bool} (λ (b : Bool). not b) none; is_asked = asked });
+}
+
+-- a row of the page map
+pub row_is : (base : ChannelBase) (past : List Entry) (row : ℕ) → row < base.shape.rows → row_at (rows_of base past) row ≡ row_of base past row
+row_is base past row lt = get_or-map-range_with_len (row_of base past) 0 base.shape.rows row row Row.Empty lt (omega arith)
+
+slot_block_in : (shape : Shape) (slot : Slot) → has_slot shape slot ≡ true → slot.sb < shape.superblocks
+slot_block_in shape slot e = grind (arith, nat_tests)
+
+-- what a look says of a row's stripe is what it is to say
+closed_is : (base : ChannelBase) (past : List Entry) (found : Row) → has_row base.shape found ≡ true
+    → is_closed_row base.shape (blocks_of base past) found ≡ is_closed_page base past found
+closed_is base past Row.Empty range = refl
+closed_is base past Row.Lost range = refl
+closed_is base past (Row.Page slot serial) range =
+    ap {B = Bool} (λ (block : BlockBase). is_closed base.shape.dies block.used (stripe_of_index base.shape.dies slot.index))
+    (block_is base past slot.sb (slot_block_in base.shape slot range))
+
+pub lawful_look : (state : ℕ → LadderState) (base : ChannelBase) (past : List Entry) (tag : Tag) (row : ℕ) (found : Row) → row < base.shape.rows → found ≡ row_of base past row
+    → has_row base.shape found ≡ true
+    → IsLawfulEntry state base past (entry_of tag (Kind.Look row found (is_closed_row base.shape (blocks_of base past) found)))
+lawful_look state base past tag row found lt is range = record {
+  in_range = both (nat_lt row base.shape.rows) (has_row base.shape found) (below_is row base.shape.rows lt) range;
+  meets = record { is_found = is; is_said = closed_is base past found range };
+}
+
+-- no die is weak where no block is listed
+none_weak_listed : (base : ChannelBase) (past : List Entry) (sb : ℕ) (dies : List ℕ) → base.weak ≡ [] → IsTrue (is_none_weak base past sb dies)
+none_weak_listed base past sb dies none = ap {B = Bool} (λ (b : Bool). not b) (none_of dies)
+  where
+    no_die : (die : ℕ) → is_weak base past sb die ≡ false
+    no_die die = ap {B = Bool} (list_any (is_listed base.channel die sb (erases_of base past sb))) none
+
+    none_of : (dies : List ℕ) → list_any (is_weak base past sb) dies ≡ false
+    none_of [] = refl
+    none_of (die ∷ dies) = ap {B = Bool} (λ (b : Bool). b || list_any (is_weak base past sb) dies) (no_die die) ∙ none_of dies
+
+pub lawful_write : (state : ℕ → LadderState) (base : ChannelBase) (past : List Entry) (tag : Tag) (row : ℕ) (slot : Slot) → row < base.shape.rows → IsTrue (has_slot base.shape slot)
+    → IsTrue (Blocks.has_host_room (blocks_of base past)) → Blocks.next_slot_of (blocks_of base past) ≡ Some slot → base.weak ≡ []
+    → IsLawfulEntry state base past (entry_of tag (Kind.Write row slot))
+lawful_write state base past tag row slot lt range room next none = record {
+  in_range = both (nat_lt row base.shape.rows) (has_slot base.shape slot) (below_is row base.shape.rows lt) range;
+  meets = record {
+    has_room = room;
+    is_programmed = record { is_next = next; none_weak = none_weak_listed base past slot.sb (dies_of_program base.shape.dies slot) none };
+  };
+}

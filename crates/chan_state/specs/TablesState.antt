@@ -1,0 +1,147 @@
+-- What do the tables of a channel hold, and what does an entry make of them? They are all that a channel keeps but its
+-- cells. What an entry does to them follows from its kind alone, for every kind.
+use Rattle.std.specs.Prelude.{ℕ, ◌≡◌, ◌+◌, ◌-◌, ◌*◌, ◌^◌, ◌≤◌, ◌<◌, Bool, false, IsTrue, IsFalse, List, ◌∷◌, length, count_by, sum_by, Some, Result, Ok, Err, All, ⊤}
+use Rattle.allocator.specs.Superblocks.{Superblocks}
+use Rattle.map_rows.specs.PageMap.{PageMap}
+use Rattle.ssd_geo.specs.BlockLaws.{blocks_after}
+use Rattle.ssd_geo.specs.Blocks.{block_at, has_host_room, next_slot_of}
+use Rattle.ssd_geo.specs.CallSteps.{is_sense_of}
+use Rattle.ssd_geo.specs.History.{looks_after}
+use Rattle.ssd_geo.specs.HistoryLaws.{rows_after}
+use Rattle.ssd_geo.specs.PageMap.{NameApart, NameWithin, row_at}
+use Rattle.ssd_geo.specs.PastRows.{row_change}
+use Rattle.ssd_geo.specs.Ranges.{has_slot}
+use Rattle.ssd_geo.specs.SerialCalls.{entry_of}
+use Rattle.ssd_geo.specs.Stripe.{is_closed, stripe_of_index}
+use Rattle.ssd_geo.specs.Superblock.{slots_of}
+use Rattle.ssd_geo.specs.declared.base.BlockBase.{BlockBase}
+use Rattle.ssd_geo.specs.declared.entry.Entry.{Entry}
+use Rattle.ssd_geo.specs.declared.kind.Kind.{Kind}
+use Rattle.ssd_geo.specs.declared.look.Look.{Look}
+use Rattle.ssd_geo.specs.declared.row.Row.{Row}
+use Rattle.ssd_geo.specs.declared.shape.Shape.{Shape}
+use Rattle.ssd_geo.specs.declared.slot.Slot.{Slot}
+use Rattle.ssd_geo.specs.declared.stop.StepStop.{StepStop}
+use Rattle.ssd_geo.specs.declared.tag.Tag.{Tag}
+use Rattle.chan_state.specs.declared.answers.LookAnswer.{LookAnswer}
+use Rattle.chan_state.specs.declared.answers.LookAnswer.TheVariants.{Empty, Lost, Found}
+use Rattle.chan_state.specs.declared.answers.WriteAnswer.{WriteAnswer}
+use Rattle.chan_state.specs.declared.answers.WriteAnswer.TheVariants.{Written, NeedRoom}
+
+-- a history: its entries, newest first, their limit, and for how many entries memory was taken
+pub record HistoryState : Type 0 where
+  pub past : List Entry
+  pub limit : ℕ
+  pub room : ℕ
+
+-- the tables of a channel
+pub record TablesState : Type 0 where
+  pub shape : Shape
+  pub session : ℕ
+  pub limit : ℕ
+  pub rows : List Row
+  pub blocks : List BlockBase
+  pub looks : List (Tag × Look)
+  pub past : List Entry
+
+-- the tables after one more entry
+abbrev pub tables_after : TablesState → Tag → Kind → TablesState
+tables_after tables tag kind = record {
+  shape = tables.shape;
+  session = tables.session;
+  limit = tables.limit;
+  rows = rows_after (row_change tables.session tables.past tag kind) tables.rows;
+  blocks = blocks_after (slots_of tables.shape.pages tables.shape.dies) kind tables.blocks;
+  looks = looks_after (length tables.past) tag kind tables.looks;
+  past = entry_of tag kind ∷ tables.past;
+}
+
+-- a step is refused for want of room, with the history's length, exactly where there is none; refused for want of
+-- memory it may be anywhere else
+abbrev pub IsStopped : {A : Type 0} → Type 0 → ℕ → Result A StepStop → Type 0
+IsStopped has_room full (Ok answer) = has_room
+IsStopped has_room full (Err (StepStop.HistoryFull told)) = (¬ has_room) × (told ≡ full)
+IsStopped has_room full (Err StepStop.Memory) = has_room
+
+-- for how many entries the limit is to leave room, so that a look may be made, and a step outside a look: each open look
+-- has 256
+abbrev pub room_of_look : List (Tag × Look) → ℕ
+room_of_look looks = 256 * (length looks + 1)
+
+abbrev pub room_of_step : List (Tag × Look) → ℕ
+room_of_step looks = 256 * length looks + 1
+
+-- whether what a row names is a page of a closed stripe
+abbrev pub is_closed_row : Shape → List BlockBase → Row → Bool
+is_closed_row shape blocks (Row.Page slot serial) =
+    is_closed shape.dies (block_at blocks slot.sb).used (stripe_of_index shape.dies slot.index)
+is_closed_row shape blocks _ = false
+
+-- the entry that a look of a row adds
+abbrev pub kind_of_look : TablesState → ℕ → Kind
+kind_of_look tables row =
+    Kind.Look row (row_at tables.rows row) (is_closed_row tables.shape tables.blocks (row_at tables.rows row))
+
+-- what a look answers, by what the row holds
+abbrev pub answer_of_look : ℕ → ℕ → Bool → Row → LookAnswer
+answer_of_look at row closed (Row.Page slot serial) =
+    Found (record { at = at; row = row; slot = slot; serial = serial; closed = closed })
+answer_of_look at row closed Row.Empty = Empty
+answer_of_look at row closed Row.Lost = Lost
+
+-- a look of a row answers what the row holds, and adds its entry
+pub record LooksIn (old new : TablesState) (tag : Tag) (row : ℕ) (answer : LookAnswer) : Type 0 where
+  pub answer_is :
+      answer ≡ answer_of_look (length old.past) row (is_closed_row old.shape old.blocks (row_at old.rows row)) (row_at old.rows row)
+  pub new_is : new ≡ tables_after old tag (kind_of_look old row)
+
+-- a write takes the next slot where the host has room, and else changes nothing
+pub record WritesIn (old new : TablesState) (tag : Tag) (row : ℕ) (slot : Slot) : Type 0 where
+  pub has_room : IsTrue (has_host_room old.blocks)
+  pub is_next : next_slot_of old.blocks ≡ Some slot
+  pub in_range : IsTrue (has_slot old.shape slot)
+  pub new_is : new ≡ tables_after old tag (Kind.Write row slot)
+
+abbrev pub WritesTables : TablesState → TablesState → Tag → ℕ → WriteAnswer → Type 0
+WritesTables old new tag row (Written slot) = WritesIn old new tag row slot
+WritesTables old new tag row NeedRoom = IsFalse (has_host_room old.blocks) × (new ≡ old)
+
+-- how many senses a look that began at a position has had
+abbrev pub senses_had : List Entry → ℕ → ℕ
+senses_had past at = count_by (λ entry. is_sense_of at entry.kind) past
+
+-- how many entries an open look still has set aside: at first 255, and 87 of them aren't for senses
+abbrev pub set_aside : List Entry → Tag × Look → ℕ
+set_aside past pin = 87 + (168 - senses_had past pin.1.at)
+
+-- the entries of a history, with those that its open looks have set aside
+abbrev pub needed_for : List Entry → List (Tag × Look) → ℕ
+needed_for past looks = length past + sum_by (set_aside past) looks
+
+-- a row, if it names a slot, names one that is used
+abbrev pub NamesUsedIn : List BlockBase → Row → Type 0
+NamesUsedIn blocks (Row.Page slot serial) = slot.index < (block_at blocks slot.sb).used
+NamesUsedIn blocks Row.Empty = ⊤
+NamesUsedIn blocks Row.Lost = ⊤
+
+-- rows may be those of a page map: each names a slot of it, and no two name one slot
+pub record AreRowsOf (superblocks slots : ℕ) (rows : List Row) : Type 0 where
+  pub within : NameWithin superblocks slots rows
+  pub apart : NameApart rows
+
+-- a look began before a position
+abbrev pub BeganBefore : ℕ → Tag × Look → Type 0
+BeganBefore at pin = pin.1.at < at
+
+-- the tables fit each other and the sizes, and the history has room for what is set aside
+pub record FitTogether (shape : Shape) (session : ℕ) (map : PageMap) (superblocks : Superblocks) (looks : List (Tag × Look)) (history : HistoryState) : Type 0 where
+  pub few_sessions : session < 2 ^ 24
+  pub rows_count : length map.rows ≡ shape.rows
+  pub map_superblocks : map.superblocks ≡ shape.superblocks
+  pub map_slots : map.slots ≡ slots_of shape.pages shape.dies
+  pub blocks_count : length superblocks.blocks ≡ shape.superblocks
+  pub blocks_slots : superblocks.slots ≡ slots_of shape.pages shape.dies
+  pub names_used : (row : ℕ) → NamesUsedIn superblocks.blocks (row_at map.rows row)
+  pub began_before : All (BeganBefore (length history.past)) looks
+  pub in_limit : needed_for history.past looks ≤ history.limit
+  pub in_room : needed_for history.past looks ≤ history.room
