@@ -1,9 +1,6 @@
 -- A codeword fails no check, and a codeword that begins with a page's payload gives the page's data back.
 use Rattle.std.proofs.Common.{ℕ, zero, suc, ◌≡◌, ◌+◌, ◌*◌, ◌/◌, ◌%◌, ◌<◌, ◌≤◌, Bool, false, List, ◌++◌, length, take, drop, get_or, Bor, None, Some, count_by, refl, sym, ◌∙◌, ap, arith, subst, cond, fold, inl, inr, rules}
-use Rattle.std.specs.Prelude.{IsSome, Option, option_copied, sum_by, ◌==◌, if◌then◌else◌}
-use Rattle.ssd_geo.specs.Limits.{payload_bytes_of}
-use Rattle.ssd_geo.specs.Shape.{HasSizes}
-use Rattle.ssd_geo.specs.declared.shape.Shape.{Shape}
+use Rattle.std.specs.Prelude.{IsSome, Option, option_copied, sum_by, ◌==◌}
 use Rattle.std.specs.Int.{bit_at}
 use Rattle.std.proofs.lemmas.List.{get_or-take, get_or_past, length-take, length-take-le}
 use Rattle.std.proofs.lemmas.Bool.Decides.{leb_tells}
@@ -74,12 +71,6 @@ data_of_word-begins payload_length serial row bytes word room begins =
     ap (data_of_word payload_length (length bytes) serial row) (sym whole)
     ∙ payloads_give_their_bytes payload_length serial row bytes (drop payload_length word) room
 
--- a codeword that begins with a page's payload is accepted, and gives the page's data
-pub accepted-data : (m : BaseMatrix) (payload_length data_length page : ℕ) (bytes sense : List ℕ) → 16 + length bytes ≤ payload_length → data_length ≡ length bytes → take payload_length sense ≡ payload_of_page payload_length 0 page bytes → IsCodeword m sense → (if failed_checks m sense == 0 then data_of_word payload_length data_length 0 page sense else None) ≡ Some bytes
-accepted-data m payload_length data_length page bytes sense room count front codeword =
-    let given = data_of_word-begins payload_length 0 page bytes sense room front in
-    rw (failed_checks-codeword m sense codeword, count) given
-
 -- what was taken off the word, where it holds data, is that data
 pub copied-some : (found : Option (Bor (List ℕ))) (bytes : List ℕ) → option_copied found ≡ Some bytes → IsSome found
 copied-some None bytes is = absurd (cc)
@@ -87,16 +78,3 @@ copied-some (Some x) bytes is = search rules
 
 pub copied-is : (x : Bor (List ℕ)) (bytes : List ℕ) → option_copied (Some x) ≡ Some bytes → x.now ≡ bytes
 copied-is x bytes is = cc
-
--- the same for the sizes of the device
-pub device-data : (m : BaseMatrix) (shape : Shape) (page named : ℕ) (bytes payload sense : List ℕ) (found : Option (Bor (List ℕ))) → HasSizes shape 1 3 4 2 64 3 6 8 8 → named ≡ page → length bytes ≡ 8 → length payload ≡ 24 → take (length payload) sense ≡ payload → payload ≡ payload_of_page (payload_bytes_of shape.mb shape.nb shape.z) 0 page bytes → IsCodeword m sense → option_copied found ≡ (if failed_checks m sense == 0 then data_of_word (payload_bytes_of shape.mb shape.nb shape.z) shape.bytes 0 named sense else None) → option_copied found ≡ Some bytes
-device-data m shape page named bytes payload sense found sizes same eight long front head codeword given =
-    let room : payload_bytes_of shape.mb shape.nb shape.z ≡ 24 =
-    rw (sizes.base_rows_are, sizes.base_columns_are, sizes.lifting_is) refl in
-    let begins : take 24 sense ≡ payload_of_page 24 0 page bytes =
-    ap (λ (n : ℕ). take n sense) (sym long) ∙ front ∙ head ∙ ap (λ (n : ℕ). payload_of_page n 0 page bytes) room in
-    let read = accepted-data m 24 8 page bytes sense (omega arith) (sym eight) begins codeword in
-    let accepted : (n d r : ℕ) → Option (List ℕ) =
-    λ n d r. if failed_checks m sense == 0 then data_of_word n d 0 r sense else None in
-    given ∙ ap (λ (n : ℕ). accepted n shape.bytes named) room ∙ ap (λ (n : ℕ). accepted 24 n named) sizes.bytes_are
-    ∙ ap (λ (n : ℕ). accepted 24 8 n) same ∙ read

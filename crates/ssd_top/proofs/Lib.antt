@@ -1,12 +1,27 @@
-mod AcceptedWords
-mod Consuming
-mod DeviceReads
-mod FirstSense
-mod Hexadecimal
-mod InputLengths
-mod NoiselessCells
-mod PageHeadline
-mod PageInput
-mod PageRun
-mod PageText
-mod ServedRuns
+pub mod AcceptedWords
+pub mod BegunChannels
+pub mod BegunDrives
+pub mod BegunRuns
+pub mod BlankChannels
+pub mod BlankInputs
+pub mod BlankStarts
+pub mod DriveCodes
+pub mod FaultTexts
+pub mod FirstSense
+pub mod FittingTraces
+pub mod GeneratedBytes
+pub mod NoiselessCells
+pub mod OneRead
+pub mod OneWrite
+pub mod OpenSenses
+pub mod PrintedText
+pub mod ReadInputs
+pub mod RunningCalls
+pub mod RunsOfInputs
+pub mod SameSizes
+pub mod ServedVerbs
+pub mod SmallBytes
+pub mod TraceRuns
+pub mod WordsReadBack
+pub mod WrittenBuffers
+pub mod ZeroWords

@@ -1,6 +1,7 @@
-pub mod Headline
-pub mod Input
-pub mod Output
+pub mod Begun
+pub mod Forms
 pub mod Printed
+pub mod Running
 pub mod Serving
 pub mod Statuses
+pub mod Workers

@@ -1,23 +1,31 @@
 -- What does the program tell its caller of a status? The exit status is a number, and standard error gets a line of text
 -- where it isn't 0.
-use Rattle.std.specs.Prelude.{ℕ, List, [], codes}
+use Rattle.std.specs.Prelude.{ℕ, List, codes}
+use Rattle.ssd_geo.specs.Statuses as Statuses
+use Rattle.ssd_geo.specs.Statuses.{done, image, out_of_memory, read_fault, trace, words_refused, write_fault}
+use Rattle.image_file.specs.Gives.{named_fault as image_fault}
+use Rattle.trace_text.specs.Answers.{named_fault as trace_fault}
 use Rattle.ssd_top.specs.declared.status.Status.{Status}
-use Rattle.ssd_top.specs.declared.status.Status.TheVariants.{Done, Words, ReadFault, WriteFault, OutOfMemory, NotBuilt}
+use Rattle.ssd_top.specs.declared.status.Status.TheVariants.{Done, Words, Image, Trace, ReadFault, WriteFault, OutOfMemory, NotBuilt}
 
--- the exit status
+-- the exit status: that of the definitions, and a number of its own for what isn't built
 abbrev pub status_number : Status → ℕ
-status_number Done = 0
-status_number Words = 2
-status_number ReadFault = 5
-status_number WriteFault = 6
-status_number OutOfMemory = 8
+status_number Done = Statuses.status_number done
+status_number Words = Statuses.status_number words_refused
+status_number (Image at fault) = Statuses.status_number (image at (image_fault fault))
+status_number (Trace line fault) = Statuses.status_number (trace line (trace_fault fault))
+status_number ReadFault = Statuses.status_number read_fault
+status_number WriteFault = Statuses.status_number write_fault
+status_number OutOfMemory = Statuses.status_number out_of_memory
 status_number NotBuilt = 10
 
--- the text, each a line that ends with LF
+-- the text: that of the definitions, and a line of its own for what isn't built
 abbrev pub text_of_status : Status → List ℕ
-text_of_status Done = []
-text_of_status Words = codes "words refused\n"
-text_of_status ReadFault = codes "read fault\n"
-text_of_status WriteFault = codes "write fault\n"
-text_of_status OutOfMemory = codes "out of memory\n"
+text_of_status Done = Statuses.status_text done
+text_of_status Words = Statuses.status_text words_refused
+text_of_status (Image at fault) = Statuses.status_text (image at (image_fault fault))
+text_of_status (Trace line fault) = Statuses.status_text (trace line (trace_fault fault))
+text_of_status ReadFault = Statuses.status_text read_fault
+text_of_status WriteFault = Statuses.status_text write_fault
+text_of_status OutOfMemory = Statuses.status_text out_of_memory
 text_of_status NotBuilt = codes "not built\n"

@@ -2,15 +2,21 @@
 //! answers how that ended. It knows no operating system.
 #![tactic(auto)]
 
-mod input;
-mod page;
+mod base;
+mod content;
+mod drive;
+mod form;
+mod lists;
 mod printed;
-mod start;
+mod serve;
+mod serving;
 mod status;
+mod steps;
 #[cfg(test)]
 mod tests;
 mod top;
 mod words;
+mod worker;
 
 pub use status::{Status, status_text};
 pub use top::run;

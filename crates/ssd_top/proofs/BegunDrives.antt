@@ -1,0 +1,279 @@
+-- Before the first call all that is asked of the worker and the channels of a blank drive holds.
+use Rattle.std.proofs.Common.{ℕ, zero, suc, ◌≡◌, ◌+◌, ◌-◌, ◌*◌, ◌%◌, ◌^◌, ◌<◌, ◌≤◌, ◌==◌, ◌&&◌, nat_le, int_lt, int_le, Bool, true, false, List, [], ◌∷◌, length, map, replicate, get_or, slice_get, ℤ, Option, Some, All, is_none, refl, ap, sym, subst, ◌∙◌, ◌<ℤ◌, ◌≤ℤ◌, arith}
+use Rattle.std.specs.List.{range_with_len}
+use Rattle.std.proofs.lemmas.Bool.Decides.{nat_tests}
+use Rattle.std.proofs.lemmas.Int.{ints}
+use Rattle.std.proofs.lemmas.List.FromFn.{length-range_with_len}
+use Rattle.std.proofs.lemmas.List.Elements.{All-nil, All-cons}
+use Rattle.std.proofs.lemmas.Simd.{map-map}
+use Rattle.chan_state.specs.ChannelState.{ChannelState, blank_start}
+use Rattle.run_laws.specs.Headline.{BeginsAs, contents_in}
+use Rattle.run_laws.specs.ServedPasts.{IsPlainStart}
+use Rattle.run_laws.specs.ServedRuns.{AreNumberedAfter, AreStartsOf, HasData, IsServedFrom, IsServedRun}
+use Rattle.run_laws.proofs.BegunRuns.{serving_begins}
+use Rattle.ssd_geo.specs.BaseMatrix.{IsAccepted, MatrixFault}
+use Rattle.ssd_geo.specs.Coding as Coding
+use Rattle.ssd_geo.specs.Fields.{is_within}
+use Rattle.ssd_geo.specs.ImageContents.{blank_channel, blank_saved, cells_of_block, cells_of_saved}
+use Rattle.ssd_geo.specs.ImageHead.{Head, IsHead, Sizes, is_column_count, matrix_of}
+use Rattle.ssd_geo.specs.Input.{Input}
+use Rattle.ssd_geo.specs.Limits.{cells_of}
+use Rattle.ssd_geo.specs.Start.{BlockCells, Start, blank_cells}
+use Rattle.ssd_geo.specs.declared.cell_law.CellLaw.{CellLaw}
+use Rattle.ssd_geo.specs.declared.entry.Entry.{Entry}
+use Rattle.ssd_geo.specs.declared.row.Row.{Row}
+use Rattle.ssd_geo.specs.declared.trace.Trace.{Trace}
+use Rattle.ssd_geo.proofs.ContentsLaws.{equal_is}
+use Rattle.ssd_geo.proofs.HeadLaws.{both_of}
+use Rattle.ssd_top.specs.Begun.{AreBegun, IsBegun, IsWorkerOf}
+use Rattle.ssd_top.specs.Forms.{blank_input, is_served_drive, tells_apart}
+use Rattle.ssd_top.specs.Running.{FitsDrive, IsChannelOf, IsRunning, history_limit, pasts_of}
+use Rattle.ssd_top.specs.Workers.{WorkerState, WorksFor}
+use Rattle.ssd_top.proofs.SameSizes.{same_shape}
+use Rattle.ssd_top.proofs.WordsReadBack.{reads_back}
+
+-- channels from this number on have begun
+abbrev AreBegunFrom : Head → ℕ → List ChannelState → Type 0
+AreBegunFrom head number [] = Unit {0}
+AreBegunFrom head number (channel ∷ channels) = IsBegun head number channel × AreBegunFrom head (number + 1) channels
+
+are_begun_from : (head : Head) (number : ℕ) (channels : List ChannelState)
+    → ((place at : ℕ) (channel : ChannelState) → at ≡ number + place → slice_get channels place ≡ Some channel → IsBegun head at channel)
+    → AreBegunFrom head number channels
+are_begun_from head number [] each = tt
+are_begun_from head number (channel ∷ channels) each = (
+  each 0 number channel (omega arith) refl,
+  are_begun_from head (number + 1) channels (λ place at other e is. each (suc place) at other (omega (arith, e)) is),
+)
+
+are_begun : (head : Head) (channels : List ChannelState) → AreBegun head channels → AreBegunFrom head 0 channels
+are_begun head channels begun =
+    are_begun_from head 0 channels
+    (λ place at channel e is. let same : place ≡ at = omega (arith, e) in subst (λ k. IsBegun head k channel) same (begun.each place channel is))
+
+-- the starts for which they stand
+abbrev start_of : {head : Head} {number : ℕ} {channel : ChannelState} → IsBegun head number channel → Start
+start_of begun = blank_start begun.base history_limit
+
+abbrev starts_of : (head : Head) (number : ℕ) (channels : List ChannelState) → AreBegunFrom head number channels → List Start
+starts_of head number [] begun = []
+starts_of head number (channel ∷ channels) begun = start_of begun.0 ∷ starts_of head (number + 1) channels begun.1
+
+-- each item is the same
+all_same : {A : Type 0} (f : ℕ → A) (a : A) → ((x : ℕ) → f x ≡ a) → (xs : List ℕ) → map f xs ≡ replicate (length xs) a
+all_same f a h [] = refl
+all_same f a h (x ∷ xs) = rw (h x, all_same f a h xs) refl
+
+same_range : {A : Type 0} (f : ℕ → A) (a : A) → ((x : ℕ) → f x ≡ a) → (n : ℕ) → map f (range_with_len 0 n) ≡ replicate n a
+same_range f a h n =
+    all_same f a h (range_with_len 0 n) ∙ ap (λ (k : ℕ). replicate k a) (length-range_with_len 0 n)
+
+-- no page of a blank superblock is programmed
+no_pages : (n die : ℕ) → let none : List (List (List ℤ)) = replicate n [] in get_or none die [] ≡ []
+no_pages zero die = refl
+no_pages (suc n) zero = refl
+no_pages (suc n) (suc die) = no_pages n die
+
+abbrev cells_of_pages : List (List ℤ) → BlockCells
+cells_of_pages pages = record { erases = 0; pages = pages }
+
+-- so its cells are blank
+cells_are : (head : Head) (number : ℕ) →
+    cells_of_saved head.sizes (blank_channel head number) ≡ replicate head.sizes.dies (replicate head.sizes.superblocks blank_cells)
+cells_are head number =
+    let blocks : List BlockCells = replicate head.sizes.superblocks blank_cells in
+    let of_die : (die : ℕ) → map (cells_of_block die) (blank_channel head number).blocks ≡ blocks = λ die.
+    map-map (cells_of_block die) (blank_saved head number) (range_with_len 0 head.sizes.superblocks)
+    ∙ same_range (λ sb. cells_of_block die (blank_saved head number sb)) blank_cells
+    (λ sb. ap (λ (pages : List (List ℤ)). cells_of_pages pages) (no_pages head.sizes.dies die)) head.sizes.superblocks in
+    same_range (λ die. map (cells_of_block die) (blank_channel head number).blocks) blocks of_die head.sizes.dies
+
+begins_as : (head : Head) (number : ℕ) (channel : ChannelState) (begun : IsBegun head number channel) → BeginsAs head number (blank_channel head number) (start_of begun)
+begins_as head number channel begun = record {
+  is_base = begun.is_base;
+  are_cells =
+      ap (λ (sizes : Sizes). replicate sizes.dies (replicate sizes.superblocks blank_cells)) begun.is_base.shape
+      ∙ sym (cells_are head number);
+}
+
+are_starts : (head : Head) (number : ℕ) (channels : List ChannelState) (begun : AreBegunFrom head number channels)
+    → AreStartsOf head number (map (blank_channel head) (range_with_len number (length channels))) (starts_of head number channels begun)
+are_starts head number [] begun = tt
+are_starts head number (channel ∷ channels) begun =
+    (begins_as head number channel begun.0, are_starts head (number + 1) channels begun.1)
+
+-- what holds of the start of each channel that has begun
+each_start : (P : Start → Type 0) (head : Head) → ((number : ℕ) (channel : ChannelState) (begun : IsBegun head number channel) → P (start_of begun))
+    → (number : ℕ) (channels : List ChannelState) (begun : AreBegunFrom head number channels) → All P (starts_of head number channels begun)
+each_start P head holds number [] begun = All-nil P
+each_start P head holds number (channel ∷ channels) begun =
+    All-cons P (start_of begun.0) (starts_of head (number + 1) channels begun.1) (holds number channel begun.0)
+    (each_start P head holds (number + 1) channels begun.1)
+
+as_many_starts : (head : Head) (number : ℕ) (channels : List ChannelState) (begun : AreBegunFrom head number channels)
+    → length (starts_of head number channels begun) ≡ length channels
+as_many_starts head number [] begun = refl
+as_many_starts head number (channel ∷ channels) begun = ap suc (as_many_starts head (number + 1) channels begun.1)
+
+no_pasts : (head : Head) (number : ℕ) (channels : List ChannelState) (begun : AreBegunFrom head number channels)
+    → (let none : List (List Entry) = map (λ start. []) (starts_of head number channels begun) in none) ≡ pasts_of channels
+no_pasts head number [] begun = refl
+no_pasts head number (channel ∷ channels) begun = rw (begun.0.has_begun.no_entry, ← no_pasts head (number + 1) channels begun.1) refl
+
+no_entries : (head : Head) (number : ℕ) (channels : List ChannelState) → AreBegunFrom head number channels
+    → All (λ channel. length channel.past ≤ 0) channels
+no_entries head number [] begun = All-nil (λ (channel : ChannelState). length channel.past ≤ 0)
+no_entries head number (channel ∷ channels) begun =
+    All-cons (λ (channel : ChannelState). length channel.past ≤ 0) channel channels
+    (omega (arith, ap length begun.0.has_begun.no_entry)) (no_entries head (number + 1) channels begun.1)
+
+-- a number that passed a test is in its range
+pub range_is : (low high n : ℕ) → is_within low high n ≡ true → (low ≤ n) × (n ≤ high)
+range_is low high n e =
+    let both : (nat_le low n ≡ true) × (nat_le n high ≡ true) = both_of (nat_le low n) (nat_le n high) e in
+    let first : low ≤ n = grind (arith, nat_tests) in
+    let last : n ≤ high = grind (arith, nat_tests) in
+    (first, last)
+
+first_of_four : (a b c d : Bool) → (a && b && c && d) ≡ true → a ≡ true
+first_of_four true b c d e = refl
+first_of_four false b c d e = absurd (cc)
+
+columns_are : (channels dies superblocks pages z mb nb : ℕ) → is_column_count channels dies superblocks pages z mb nb ≡ true → (mb + 1 ≤ nb) × (nb ≤ 128)
+columns_are channels dies superblocks pages z mb nb e =
+    range_is (mb + 1) 128 nb
+    (first_of_four (is_within (mb + 1) 128 nb) ((nb - mb) * z % 8 == 0) (nb * z % 8 == 0) (nat_le (cells_of channels dies superblocks pages z nb) (2 ^ 28)) e)
+
+-- the base matrix of a head has a code
+head_accepted : (head : Head) → IsHead head → IsAccepted (matrix_of head)
+head_accepted head ok =
+    let z = range_is 4 1024 head.sizes.z ok.lifting in
+    let mb = range_is 3 16 head.sizes.mb ok.base_rows in
+    let nb =
+    columns_are head.sizes.channels head.sizes.dies head.sizes.superblocks head.sizes.pages head.sizes.z head.sizes.mb head.sizes.nb ok.base_columns in
+    record {
+      within = record {
+        z_low = z.0;
+        z_high = z.1;
+        mb_low = mb.0;
+        mb_high = mb.1;
+        nb_low = omega (arith, nb.0);
+        nb_high = nb.1;
+        entries = ok.entry_count;
+      };
+      faultless = ap (λ (fault : Option MatrixFault). is_none fault) ok.faultless;
+    }
+
+-- the first read level of a drive that is served tells its cells apart
+first_level : (law : CellLaw) (levels : List ℤ) (level : ℤ) → tells_apart law levels ≡ true → slice_get levels 0 ≡ Some level
+    → (law.erased <ℤ level) × (level ≤ℤ law.programmed)
+first_level law [] level e is_first = absurd (cc)
+first_level law (first ∷ levels) level e is_first =
+    let same : first ≡ level = cc in
+    let both : (int_lt law.erased first ≡ true) × (int_le first law.programmed ≡ true) = both_of (int_lt law.erased first) (int_le first law.programmed) e in
+    let low : law.erased <ℤ first = omega (arith, ints, both.0) in
+    let high : first ≤ℤ law.programmed = omega (arith, ints, both.1) in
+    (subst (λ n. law.erased <ℤ n) same low, subst (λ n. n ≤ℤ law.programmed) same high)
+
+-- a drive that is served
+module _ (head : Head) (ok : IsHead head) (is_served : is_served_drive head ≡ true) (worker : WorkerState) (is_worker : IsWorkerOf head worker) where
+  parts : ((head.law.spread == 0 && length head.weak == 0) ≡ true) × (tells_apart head.law head.read_levels ≡ true)
+  parts = both_of (head.law.spread == 0 && length head.weak == 0) (tells_apart head.law head.read_levels) is_served
+
+  no_spread : head.law.spread ≡ 0
+  no_spread = equal_is head.law.spread 0 (both_of (head.law.spread == 0) (length head.weak == 0) parts.0).0
+
+  told_apart : (head.law.erased <ℤ worker.level) × (worker.level ≤ℤ head.law.programmed)
+  told_apart = first_level head.law head.read_levels worker.level parts.1 is_worker.level_is
+
+  -- its channels begin without pages, and their words are read from the first sense
+  is_plain : (number : ℕ) (channel : ChannelState) (begun : IsBegun head number channel) → IsPlainStart (start_of begun)
+  is_plain number channel begun =
+      let same_matrix : Coding.matrix_of begun.base ≡ matrix_of head = λ i.
+      record {
+        z = (begun.is_base.shape i).z;
+        mb = (begun.is_base.shape i).mb;
+        nb = (begun.is_base.shape i).nb;
+        entries = begun.is_base.entries i;
+      } in
+      record {
+        no_page = begun.is_base.rows ∙ ap (λ (sizes : Sizes). replicate sizes.rows Row.Empty) (sym begun.is_base.shape);
+        reads_back =
+            reads_back begun.base (subst IsAccepted (sym same_matrix) (head_accepted head ok)) worker.level
+            (ap (λ (levels : List ℤ). slice_get levels 0) begun.is_base.read_levels ∙ is_worker.level_is)
+            (ap (λ (law : CellLaw). law.spread) begun.is_base.law ∙ no_spread)
+            (subst (λ (law : CellLaw). law.erased <ℤ worker.level) (sym begun.is_base.law) told_apart.0)
+            (subst (λ (law : CellLaw). worker.level ≤ℤ law.programmed) (sym begun.is_base.law) told_apart.1);
+      }
+
+  -- and the worker works for them
+  works : (number : ℕ) (channel : ChannelState) (begun : IsBegun head number channel) → WorksFor worker (start_of begun)
+  works number channel begun =
+      let same_code : matrix_of head ≡ Coding.matrix_of begun.base = λ i.
+      record {
+        z = (sym begun.is_base.shape i).z;
+        mb = (sym begun.is_base.shape i).mb;
+        nb = (sym begun.is_base.shape i).nb;
+        entries = sym begun.is_base.entries i;
+      } in
+      record {
+        shape_is = same_shape worker.shape begun.base.shape (is_worker.sizes_are ∙ sym begun.is_base.shape);
+        session_is = is_worker.session_is ∙ sym begun.is_base.session;
+        code_is = is_worker.code_is ∙ same_code;
+        level_is = ap (λ (levels : List ℤ). slice_get levels 0) begun.is_base.read_levels ∙ is_worker.level_is;
+      }
+
+  is_channel : (input : Input) (number : ℕ) (channel : ChannelState) (begun : IsBegun head number channel)
+      → IsChannelOf input worker (start_of begun) channel
+  is_channel input number channel begun = record {
+    works = works number channel begun;
+    stands = begun.has_begun.stands (contents_in input);
+    limit_is = begun.has_begun.limit_is;
+  }
+
+-- what holds of each channel that has begun and its start
+each_channel : (P : Start → ChannelState → Type 0) (head : Head)
+    → ((number : ℕ) (channel : ChannelState) (begun : IsBegun head number channel) → P (start_of begun) channel)
+    → (number : ℕ) (channels : List ChannelState) (begun : AreBegunFrom head number channels) (place : ℕ) (start : Start) (channel : ChannelState)
+    → slice_get (starts_of head number channels begun) place ≡ Some start → slice_get channels place ≡ Some channel → P start channel
+each_channel P head holds number [] begun place start channel has_start has_channel = absurd (cc)
+each_channel P head holds number (first ∷ channels) begun zero start channel has_start has_channel =
+    let same_start : start_of begun.0 ≡ start = cc in
+    let same_channel : first ≡ channel = cc in
+    subst (λ s. P s channel) same_start (subst (P (start_of begun.0)) same_channel (holds number first begun.0))
+each_channel P head holds number (first ∷ channels) begun (suc place) start channel has_start has_channel =
+    each_channel P head holds (number + 1) channels begun.1 place start channel has_start has_channel
+
+pub running_begins : (head : Head) → IsHead head → is_served_drive head ≡ true → (trace : Trace) (worker : WorkerState) → IsWorkerOf head worker
+    → (channels : List ChannelState) → AreBegun head channels → AreNumberedAfter trace.actors [] trace.calls
+    → All (λ call. HasData head.sizes.bytes call.verb) trace.calls → All (λ call. FitsDrive worker (length channels) call.verb) trace.calls
+    → IsRunning (blank_input head trace) worker channels [] (replicate trace.actors [])
+running_begins head ok is_served trace worker is_worker channels are numbered have_data fits =
+    let begun : AreBegunFrom head 0 channels = are_begun head channels are in
+    let starts : List Start = starts_of head 0 channels begun in
+    let as_many : length starts ≡ length channels = as_many_starts head 0 channels begun in
+    let some : 0 < length starts = omega (arith, as_many, are.as_many, (range_is 1 8 head.sizes.channels ok.channels).0) in
+    let from : IsServedFrom (blank_input head trace) starts =
+    record {
+      some_channel = some;
+      are_starts =
+          subst (λ count. AreStartsOf head 0 (map (blank_channel head) (range_with_len 0 count)) starts) are.as_many
+          (are_starts head 0 channels begun);
+      are_plain = each_start IsPlainStart head (is_plain head ok is_served worker is_worker) 0 channels begun;
+      same_bytes =
+          each_start (λ start. start.base.shape.bytes ≡ head.sizes.bytes) head
+          (λ number channel of. ap (λ (sizes : Sizes). sizes.bytes) of.is_base.shape) 0 channels begun;
+      numbered = numbered;
+      have_data = have_data;
+    } in
+    record {
+      starts = starts;
+      served =
+          subst (IsServedRun (blank_input head trace) starts [] (replicate trace.actors [])) (no_pasts head 0 channels begun)
+          (serving_begins (blank_input head trace) starts from);
+      are_channels =
+          each_channel (IsChannelOf (blank_input head trace) worker) head (is_channel head ok is_served worker is_worker (blank_input head trace)) 0 channels begun;
+      few_channels = omega (arith, are.as_many, (range_is 1 8 head.sizes.channels ok.channels).1);
+      fits = fits;
+      few_entries = no_entries head 0 channels begun;
+    }

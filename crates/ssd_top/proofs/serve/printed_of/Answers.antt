@@ -1,0 +1,11 @@
+use Rattle.std.proofs.Common.{map, refl}
+use Rattle.ssd_geo.specs.ImageHead.{head_of}
+use Rattle.ssd_top.proofs.RunsOfInputs.{few_levels, histories_are, is_of_input}
+use Rattle.ssd_top.specs.Forms.{blank_input}
+use Rattle.ssd_top.proofs.serve.printed_of.Goals as goal
+
+pub returns : goal.returns
+returns c =
+    is_of_input (blank_input (head_of c.args.head) c.args.trace.now) c.requires.served.worker c.args.served.channels.items
+    (map (λ list. list.items) c.args.served.replies.items) _ c.requires.served.running refl (few_levels (head_of c.args.head) c.requires.head)
+    (histories_are c.args.served.channels.items c.in_ok-histories.histories.items c.in_ok-histories.ensures) c.in_ok-kinds.ensures c.in_ok-replies.ensures

@@ -1,0 +1,77 @@
+// What serves a drive is made from the head of its image.
+ghost use Rattle.std.specs.Prelude.{◌≡◌, ◌<◌, [], IfOk, Some, slice_get};
+ghost use Rattle.ssd_geo.specs.ImageHead.{IsHead, head_of, matrix_of};
+ghost use Rattle.ssd_top.specs.Begun.{AreBegun, IsBegun, IsWorkerOf};
+
+use crate::base::blank_base;
+use crate::worker::Worker;
+use chan_state::Channel;
+use qc_matrix::{Code, CodeFault};
+use ssd_geo::{ImageHead, Memory};
+use std::alloc::Global;
+
+// The code of the drive.
+fn code_of(alloc: Global, head: &ImageHead) -> Result<Code, Memory>
+    requires { IsHead (head_of head.now) }
+    ensures { IfOk result (λ code. code ≡ matrix_of (head_of head.now)) }
+{
+    let shape = head.shape;
+    match Code::read(alloc, head.entries.as_slice(), shape.mb, shape.nb, shape.z) {
+        Ok(code) => Ok(code),
+        Err(CodeFault::Memory) => Err(Memory),
+        Err(CodeFault::EntryRange { .. }) => unreachable!(),
+        Err(CodeFault::ParityColumn { .. }) => unreachable!(),
+        Err(CodeFault::Diagonal { .. }) => unreachable!(),
+    }
+}
+
+// The read level of the first sense.
+fn first_level(head: &ImageHead) -> i16
+    requires { IsHead (head_of head.now) }
+    ensures { slice_get head.now.read_levels 0 ≡ Some result }
+{
+    match head.read_levels.as_slice().first() {
+        Some(level) => *level,
+        None => unreachable!(),
+    }
+}
+
+// The worker of the drive that an image's head tells of.
+pub fn worker_of(alloc: Global, head: &ImageHead) -> Result<Worker, Memory>
+    requires { IsHead (head_of head.now) }
+    ensures { IfOk result (IsWorkerOf (head_of head.now)) }
+{
+    let code = code_of(alloc, head)?;
+    Worker::new(alloc, head.shape, head.session, code, first_level(head))
+}
+
+// The limit of each history's entries.
+const LIMIT: u32 = 1 << 22;
+
+// A channel of the drive, blank.
+fn channel_of(alloc: Global, head: &ImageHead, channel: u8) -> Result<Channel, Memory>
+    requires head { IsHead (head_of head.now) }
+    requires none_weak { head.now.weak ≡ [] }
+    requires in_drive { channel < head.now.shape.channels }
+    ensures { IfOk result (IsBegun (head_of head.now) channel) }
+{
+    let base = blank_base(alloc, head, channel)?;
+    Channel::start(alloc, base, LIMIT)
+}
+
+// All channels of the drive, blank.
+pub fn channels_of(alloc: Global, head: &ImageHead) -> Result<Vec<Channel>, Memory>
+    requires head { IsHead (head_of head.now) }
+    requires none_weak { head.now.weak ≡ [] }
+    ensures { IfOk result (λ channels. AreBegun (head_of head.now) channels.items) }
+{
+    let mut channels = Vec::new(alloc);
+    for channel in 0..head.shape.channels {
+        let begun = channel_of(alloc, head, channel)?;
+        match channels.push(begun) {
+            Ok(()) => {}
+            Err(_) => return Err(Memory),
+        }
+    }
+    Ok(channels)
+}
