@@ -1,22 +1,24 @@
 -- A call that was answered stays so when another call adds its entries to a channel and its reply to those of its actor.
-use Rattle.std.proofs.Common.{ℕ, zero, suc, ◌≡◌, ◌≢◌, ◌<◌, ◌%◌, List, [], ◌∷◌, ◌++◌, Some, refl, sym, ap, subst, ◌∙◌, inl, inr, arith, length-set, get_or-set_same, get_or-set_other}
+use Rattle.std.proofs.Common.{ℕ, zero, suc, ◌≡◌, ◌≢◌, ◌<◌, ◌%◌, List, [], ◌∷◌, ◌++◌, None, Some, refl, sym, ap, subst, ◌∙◌, inl, inr, arith, length-set, get_or-set_same, get_or-set_other}
 use Rattle.std.specs.Prelude.{All, length, slice_get, slice_set, slice_index_or, option_map, IsSomeAnd}
 use Rattle.std.specs.List.{enumerate_from}
-use Rattle.std.specs.Option.{ForSome}
-use Rattle.ssd_geo.specs.CallSteps.{position_of, steps_of}
+use Rattle.ssd_geo.specs.CallSteps.{steps_of}
 use Rattle.ssd_geo.specs.CallsInOrder.{ChannelRun, IsReplyBy, OfRun, ladder_in, reply_to, steps_on}
-use Rattle.ssd_geo.specs.History.{look_made}
-use Rattle.ssd_geo.specs.PlainMap.{plain_of}
+use Rattle.ssd_geo.specs.PastPages.{sense_for}
 use Rattle.ssd_geo.specs.Replies.{collect_reply, decided_pages, drained_on, pages_on, read_reply, refresh_reply, reply_of_refresh, single_reply, write_reply}
 use Rattle.ssd_geo.specs.Start.{Start}
 use Rattle.ssd_geo.specs.declared.entry.Entry.{Entry}
+use Rattle.ssd_geo.specs.declared.kind.Kind.{Kind}
 use Rattle.ssd_geo.specs.declared.reply.Reply.{Reply}
 use Rattle.ssd_geo.specs.declared.tag.Tag.{Tag}
 use Rattle.ssd_geo.specs.declared.trace.TraceCall.{TraceCall}
 use Rattle.ssd_geo.specs.declared.trace.Verb.{Verb}
-use Rattle.run_laws.specs.Headline.{GivesPlain}
-use Rattle.run_laws.specs.ServedRuns.{IsAnswered, ReadsPlain, with_reply}
+use Rattle.run_laws.specs.Headline.{ReadsLastWrite}
+use Rattle.run_laws.specs.ServedPasts.{IsPlainPast}
+use Rattle.run_laws.specs.ServedRuns.{IsAnswered, with_reply}
 use Rattle.run_laws.proofs.ChangedRuns.{channel_goes_on, channels_go_on, one_or_other}
+use Rattle.run_laws.proofs.GrownPasts.{grown}
+use Rattle.run_laws.proofs.KeptReads.{GivesLast, all_still_give}
 use Rattle.run_laws.proofs.WholeCalls.{run_of}
 
 module _ (contents : List (Tag × List ℕ)) (runs : List ChannelRun) (k : ℕ) (start : Start) (past after : List Entry) (is : slice_get runs k ≡ Some (run_of start past)) where
@@ -53,22 +55,20 @@ module _ (contents : List (Tag × List ℕ)) (runs : List ChannelRun) (k : ℕ) 
       channel_goes_on (λ run. single_reply (steps_on tag run) ≡ Some reply) runs k (run_of start past) (run_of start after) channel is
       (λ before. subst (λ steps. single_reply steps ≡ Some reply) (sym same) before) held
 
-  pub plain_stays : (tag : Tag) (verb : Verb) (reply : Reply) → steps_of tag after ≡ steps_of tag past → ReadsPlain contents runs tag verb reply → ReadsPlain contents (slice_set runs k (run_of start after)) tag verb reply
-  plain_stays tag (Verb.Write page content) reply same held = tt
-  plain_stays tag (Verb.Read page) reply same held =
-      on_page
-      (λ run. All
-      (λ step. ForSome (look_made (position_of step) step.entry.kind) (λ look. GivesPlain (plain_of run.start.base contents step.past look.row) reply))
-      (steps_on tag run)) page
-      (λ before. subst
-      (λ steps. All
-      (λ step. ForSome (look_made (position_of step) step.entry.kind) (λ look. GivesPlain (plain_of start.base contents step.past look.row) reply))
-      steps) (sym same) before) held
-  plain_stays tag (Verb.Trim page) reply same held = tt
-  plain_stays tag (Verb.Refresh page) reply same held = tt
-  plain_stays tag (Verb.Collect channel) reply same held = tt
-  plain_stays tag (Verb.Drain count) reply same held = tt
-  plain_stays tag (Verb.Age channel die sb amount) reply same held = tt
+  -- so does that a read gave its row's last write, where the new entries are no senses of older looks
+  module _ (new_tag : Tag) (kinds : List Kind) (grows : after ≡ grown new_tag kinds past) (plain : IsPlainPast start contents past) (spares : (at : ℕ) → at < length past → All (λ kind. sense_for at kind ≡ None) kinds) where
+    pub last_stays : (tag : Tag) (verb : Verb) (reply : Reply) → steps_of tag after ≡ steps_of tag past → ReadsLastWrite contents runs tag verb reply → ReadsLastWrite contents (slice_set runs k (run_of start after)) tag verb reply
+    last_stays tag (Verb.Write page content) reply same held = tt
+    last_stays tag (Verb.Read page) reply same held =
+        on_page (λ run. All (GivesLast contents reply run) (steps_on tag run)) page
+        (λ before. subst (λ steps. All (GivesLast contents reply (run_of start after)) steps) (sym same)
+        (subst (λ named. All (GivesLast contents reply (run_of start named)) (steps_of tag past)) (sym grows)
+        (all_still_give contents reply start new_tag kinds past plain spares tag before))) held
+    last_stays tag (Verb.Trim page) reply same held = tt
+    last_stays tag (Verb.Refresh page) reply same held = tt
+    last_stays tag (Verb.Collect channel) reply same held = tt
+    last_stays tag (Verb.Drain count) reply same held = tt
+    last_stays tag (Verb.Age channel die sb amount) reply same held = tt
 
 -- a reply that stands in a list stands there with more after it, and the one after all has their number
 stands_with_more : {X : Type 0} (xs : List X) (y : X) (i : ℕ) (x : X) → slice_get xs i ≡ Some x → slice_get (xs ++ y ∷ []) i ≡ Some x
@@ -103,11 +103,12 @@ new_reply_there replies tag reply low number =
     ∙ subst (λ n. slice_get (slice_index_or replies tag.actor [] ++ reply ∷ []) n ≡ Some reply) number (stands_last (slice_index_or replies tag.actor []) reply)
 
 pub answered_stays : (contents : List (Tag × List ℕ)) (runs : List ChannelRun) (k : ℕ) (start : Start) (past after : List Entry) (replies : List (List Reply)) (actor : ℕ) (reply : Reply) (call : TraceCall) →
-    slice_get runs k ≡ Some (run_of start past) → actor < length replies → steps_of call.tag after ≡ steps_of call.tag past → IsAnswered contents runs replies call →
-    IsAnswered contents (slice_set runs k (run_of start after)) (with_reply replies actor reply) call
-answered_stays contents runs k start past after replies actor reply call is low same answered = record {
+    slice_get runs k ≡ Some (run_of start past) → actor < length replies → steps_of call.tag after ≡ steps_of call.tag past →
+    ((held : Reply) → ReadsLastWrite contents runs call.tag call.verb held → ReadsLastWrite contents (slice_set runs k (run_of start after)) call.tag call.verb held) →
+    IsAnswered contents runs replies call → IsAnswered contents (slice_set runs k (run_of start after)) (with_reply replies actor reply) call
+answered_stays contents runs k start past after replies actor reply call is low same last answered = record {
   reply = answered.reply;
   is_there = reply_there replies actor reply call.tag answered.reply low answered.is_there;
   is_reply = reply_stays contents runs k start past after is call.tag call.verb answered.reply same answered.is_reply;
-  reads_plain = plain_stays contents runs k start past after is call.tag call.verb answered.reply same answered.reads_plain;
+  last_write = last answered.reply answered.last_write;
 }

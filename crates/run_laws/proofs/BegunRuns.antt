@@ -1,20 +1,22 @@
 -- What is asked of a run so far holds before its first call.
-use Rattle.std.proofs.Common.{ℕ, ◌≡◌, ◌<◌, List, [], ◌∷◌, length, map, replicate, refl, sym, subst}
-use Rattle.std.specs.Prelude.{All, IsTrue, sum_by, slice_index_or}
+use Rattle.std.proofs.Common.{ℕ, ◌≡◌, ◌<◌, ◌-◌, List, [], ◌∷◌, length, map, replicate, refl, sym, ap, subst, arith}
+use Rattle.std.specs.Prelude.{All, IsTrue, count_by, sum_by, slice_index_or}
 use Rattle.std.specs.List.{list_all}
 use Rattle.std.proofs.lemmas.List.{length-map, length-replicate}
 use Rattle.std.proofs.lemmas.List.Elements.{All-nil, All-cons, All-head, All-replicate, All-tail, All-get_or}
 use Rattle.ssd_geo.specs.CallsInOrder.{ChannelRun, IsWhole, is_of_call, never_fall}
 use Rattle.ssd_geo.specs.History.{open_looks}
-use Rattle.ssd_geo.specs.RunText.{taken_by}
+use Rattle.ssd_geo.specs.RunText.{is_hinted, taken_by}
+use Rattle.ssd_geo.specs.SerialHistory.{AreServed, first_state, most_hints, none_left}
 use Rattle.ssd_geo.specs.Start.{Start}
 use Rattle.ssd_geo.specs.declared.entry.Entry.{Entry}
 use Rattle.ssd_geo.specs.declared.reply.Reply.{Reply}
 use Rattle.ssd_geo.specs.declared.tag.Tag.{Tag}
 use Rattle.run_laws.specs.Headline.{contents_in}
 use Rattle.run_laws.specs.ServedPasts.{IsPlainKind, IsPlainPast, IsPlainStart}
-use Rattle.run_laws.specs.ServedRuns.{IsAnswered, ServingBegins, runs_with}
-use Rattle.run_laws.proofs.ChangedRuns.{sum_of_none}
+use Rattle.run_laws.specs.ServedRuns.{IsAnswered, ServingBegins, hints_in, runs_with}
+use Rattle.run_laws.specs.WrittenRoom.{writes_in}
+use Rattle.run_laws.proofs.ChangedRuns.{all_at, sum_of_none}
 
 -- the past of a channel at the start
 abbrev no_past : Start → List Entry
@@ -51,6 +53,26 @@ none_taken actors =
     sum_of_none (sum_by taken_by) (no_replies actors)
     (All-replicate (λ (list : List Reply). sum_by taken_by list ≡ 0) actors [] refl)
 
+-- the serial history begins with the runs of these pasts
+abbrev begun_run : Start → ChannelRun
+begun_run start = record { start = start; past = [] }
+
+begun_runs : (starts : List Start) → map begun_run starts ≡ runs_with starts (map no_past starts)
+begun_runs [] = refl
+begun_runs (start ∷ starts) = ap {B = List ChannelRun} (λ (runs : List ChannelRun). begun_run start ∷ runs) (begun_runs starts)
+
+no_hint : (actors : ℕ) → hints_in (no_replies actors) ≡ 0
+no_hint actors =
+    sum_of_none (count_by is_hinted) (no_replies actors)
+    (All-replicate (λ (list : List Reply). count_by is_hinted list ≡ 0) actors [] refl)
+
+begins_served : (contents : List (Tag × List ℕ)) (actors : ℕ) (starts : List Start) →
+    AreServed contents (no_replies actors) (length starts) [] (first_state starts) (record { channels = runs_with starts (map no_past starts); hints = []; dropped = hints_in (no_replies actors) - most_hints })
+begins_served contents actors starts =
+    let none : hints_in (no_replies actors) - most_hints ≡ 0 = let hints = no_hint actors in omega (arith, hints) in
+    subst (λ (dropped : ℕ). AreServed contents (no_replies actors) (length starts) [] (first_state starts) (record { channels = runs_with starts (map no_past starts); hints = []; dropped = dropped })) (sym none)
+    (subst (λ (runs : List ChannelRun). AreServed contents (no_replies actors) (length starts) [] (first_state starts) (record { channels = runs; hints = []; dropped = 0 })) (begun_runs starts) none_left)
+
 pub serving_begins : ServingBegins
 serving_begins input starts from = record {
   is_served_from = from;
@@ -64,6 +86,10 @@ serving_begins input starts from = record {
   are_whole = All-nil (IsWhole (contents_in input) (runs_with starts (map no_past starts)));
   are_answered = All-nil (IsAnswered (contents_in input) (runs_with starts (map no_past starts)) (no_replies input.calls.actors));
   as_many_actors = length-replicate {A = List Reply} input.calls.actors [];
+  hints = [];
+  hints_kept = let hints = no_hint input.calls.actors in omega (arith, hints);
+  are_served = begins_served (contents_in input) input.calls.actors starts;
+  writes_counted = λ channel past is. all_at (λ (held : List Entry). writes_in held ≡ 0) (map no_past starts) channel past (of_no_past (λ held. writes_in held ≡ 0) starts refl) is;
   counted = λ actor below. no_reply input.calls.actors actor below;
   none_taken = none_taken input.calls.actors;
 }

@@ -1,16 +1,13 @@
--- A channel that began without pages has rows that writes and trims made, so none is lost, and each names a used slot.
-use Rattle.std.proofs.Common.{◌≡◌, ◌≢◌, ℕ, zero, suc, ◌==◌, Bool, true, false, List, [], ◌∷◌, replicate, get_or, refl, sym, subst, ap, ◌∙◌}
+-- A channel that began without pages has rows that writes and trims made, and each names a used slot.
+use Rattle.std.proofs.Common.{◌≡◌, ℕ, zero, suc, List, [], ◌∷◌, replicate, get_or, refl, sym, subst, ap, ◌∙◌}
 use Rattle.std.proofs.lemmas.List.Elements.{All-head, All-tail}
 use Rattle.ssd_geo.specs.declared.entry.Entry.{Entry}
-use Rattle.ssd_geo.specs.declared.kind.Kind.{Kind}
 use Rattle.ssd_geo.specs.declared.row.Row.{Row}
-use Rattle.ssd_geo.specs.declared.slot.Slot.{Slot}
 use Rattle.ssd_geo.specs.declared.tag.Tag.{Tag}
 use Rattle.ssd_geo.specs.LookLaws.{NamesUsed, RowsNameUsed}
-use Rattle.ssd_geo.specs.PastRows.{row_of, serial_of}
+use Rattle.ssd_geo.specs.PastRows.{row_of}
 use Rattle.ssd_geo.specs.Start.{Start}
-use Rattle.ssd_geo.proofs.UsedSlots.{made}
-use Rattle.run_laws.specs.ServedPasts.{IsPlainKind, IsPlainPast, IsPlainStart, NoPageIsLost}
+use Rattle.run_laws.specs.ServedPasts.{IsPlainKind, IsPlainPast, IsPlainStart}
 
 -- every row of empty ones is empty
 empty_at : (n row : ℕ) → get_or (replicate n Row.Empty) row Row.Empty ≡ Row.Empty
@@ -27,28 +24,6 @@ blank_row start row plain =
 pub blank_rows_name_used : (start : Start) → IsPlainStart start → RowsNameUsed start.base
 blank_rows_name_used start plain row = subst (NamesUsed start.base []) (sym (blank_row start row plain)) tt
 
--- a row isn't lost where neither what it may have changed to nor what it held is
-kept_row : (b : Bool) (to before : Row) → to ≢ Row.Lost → before ≢ Row.Lost → (elim b [ true ↦ to | false ↦ before ]) ≢ Row.Lost
-kept_row true to before h g = h
-kept_row false to before h g = g
-
-page_is_kept : (slot : Slot) (serial : ℕ) → Row.Page slot serial ≢ Row.Lost
-page_is_kept slot serial e = absurd (cc)
-
-empty_is_kept : Row.Empty ≢ Row.Lost
-empty_is_kept e = absurd (cc)
-
--- nor after one more entry of a plain kind
-row_is_kept : (start : Start) (contents : List (Tag × List ℕ)) (past : List Entry) (row : ℕ) (tag : Tag) (kind : Kind) → IsPlainKind start.base.shape.bytes contents tag kind
-    → row_of start.base past row ≢ Row.Lost → row_of start.base (made tag kind ∷ past) row ≢ Row.Lost
-row_is_kept start contents past row tag (Kind.Write named slot) plain h =
-    kept_row (named == row) (Row.Page slot (serial_of start.base.session tag)) (row_of start.base past row) (page_is_kept slot (serial_of start.base.session tag)) h
-row_is_kept start contents past row tag (Kind.Trim named) plain h = kept_row (named == row) Row.Empty (row_of start.base past row) empty_is_kept h
-row_is_kept start contents past row tag (Kind.Look looked found closed) plain h = h
-row_is_kept start contents past row tag (Kind.Sense at place level) plain h = h
-row_is_kept start contents past row tag (Kind.Leave at) plain h = h
-row_is_kept start contents past row tag kind plain h = absurd plain
-
 -- a plain past without its newest entry
 pub past_is_plain : (start : Start) (contents : List (Tag × List ℕ)) (entry : Entry) (past : List Entry) → IsPlainPast start contents (entry ∷ past) → IsPlainPast start contents past
 past_is_plain start contents entry past plain = record {
@@ -61,9 +36,3 @@ past_is_plain start contents entry past plain = record {
 pub newest_is_plain : (start : Start) (contents : List (Tag × List ℕ)) (entry : Entry) (past : List Entry) → IsPlainPast start contents (entry ∷ past) → IsPlainKind start.base.shape.bytes contents entry.tag entry.kind
 newest_is_plain start contents entry past plain =
     All-head (λ other. IsPlainKind start.base.shape.bytes contents other.tag other.kind) entry past plain.are_plain
-
-pub no_page_lost : NoPageIsLost
-no_page_lost start contents [] row plain e = absurd (empty_is_kept (sym (blank_row start row plain.is_plain_start) ∙ e))
-no_page_lost start contents (entry ∷ past) row plain e =
-    row_is_kept start contents past row entry.tag entry.kind (newest_is_plain start contents entry past plain)
-    (no_page_lost start contents past row (past_is_plain start contents entry past plain)) e

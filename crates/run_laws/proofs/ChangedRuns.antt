@@ -12,6 +12,10 @@ use Rattle.ssd_geo.specs.Start.{Start}
 use Rattle.ssd_geo.specs.declared.entry.Entry.{Entry}
 use Rattle.run_laws.specs.ServedRuns.{runs_with}
 
+-- what holds of two facts of each item together
+pub all_both : {X : Type 0} (P Q R : X → Type 0) → ((x : X) → P x → Q x → R x) → (xs : List X) → All P xs → All Q xs → All R xs
+all_both P Q R follows xs p q = λ k d within. follows (slice_index_or xs k d) (p k d within) (q k d within)
+
 -- what holds of each item holds of the one at a place
 pub all_at : {X : Type 0} (P : X → Type 0) (xs : List X) (k : ℕ) (x : X) → All P xs → slice_get xs k ≡ Some x → P x
 all_at P xs k x all is = subst P (get_or_from_slice_get xs k x x is) (All-get_or P xs k x (slice_get_within xs k x is) all)

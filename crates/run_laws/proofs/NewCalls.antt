@@ -1,5 +1,5 @@
 -- What holds of the call that was served last: it is whole on all channels, its data are those of its content, the counts of
--- replies go with it, and its past is one of writes, trims and reads.
+-- replies go with it, and its past is one of writes, trims, reads and ageings.
 use Rattle.std.proofs.Common.{ℕ, ◌≡◌, ◌<◌, cond, List, [], ◌∷◌, ◌++◌, length, Some, sym, ap, subst, ◌∙◌, inl, inr, arith, eq-eqb, eqb-true, length-append, length-set}
 use Rattle.std.specs.Prelude.{All, count_by, sum_by, slice_set, slice_index_or}
 use Rattle.std.specs.List.{enumerate_from}
@@ -20,15 +20,12 @@ use Rattle.run_laws.specs.ServedPasts.{IsData, IsPlainKind}
 use Rattle.run_laws.specs.ServedRuns.{AreNumberedAfter, HasData, channel_of, with_reply}
 use Rattle.run_laws.proofs.AnsweredCalls.{other_replies, own_replies}
 use Rattle.run_laws.proofs.ChangedRuns.{all_at, all_channels, one_or_other, sum_of_none}
-use Rattle.run_laws.proofs.GrownPasts.{grown}
-use Rattle.run_laws.proofs.MadeCalls.{HasOwnData, IsMade, faults_in, none_elsewhere, took_few}
+use Rattle.run_laws.proofs.GrownPasts.{faults_in, grown}
+use Rattle.run_laws.proofs.MadeCalls.{HasOwnData, IsMade, none_elsewhere, took_few}
 use Rattle.run_laws.proofs.NumberedCalls.{not_true, tags_give_data}
 use Rattle.run_laws.proofs.WholeCalls.{run_of}
 
--- what holds of two facts of each item together
-pub all_both : {X : Type 0} (P Q R : X → Type 0) → ((x : X) → P x → Q x → R x) → (xs : List X) → All P xs → All Q xs → All R xs
-all_both P Q R follows xs p q = λ k d within. follows (slice_index_or xs k d) (p k d within) (q k d within)
-
+-- what holds of each item holds of one in the middle
 pub all_middle : {X : Type 0} (P : X → Type 0) (xs : List X) (y : X) (ys : List X) → All P (xs ++ y ∷ ys) → P y
 all_middle P [] y ys all = All-head P y ys all
 all_middle P (x ∷ xs) y ys all = all_middle P xs y ys (All-tail P x (xs ++ y ∷ ys) all)
@@ -70,7 +67,7 @@ pub new_has_data : (actors count : ℕ) (done rest : List TraceCall) (call : Tra
 new_has_data actors count done rest call numbered have =
     own_data actors count done rest call.tag call.verb numbered (all_middle (λ (other : TraceCall). HasData count other.verb) done call rest have)
 
--- its entries are of a write, a trim or a read
+-- its entries are of a write, a trim, a read or an ageing
 pub grown_is_plain : (count : ℕ) (contents : List (Tag × List ℕ)) (tag : Tag) (kinds : List Kind) (past : List Entry) → All (IsPlainKind count contents tag) kinds → All (λ entry. IsPlainKind count contents entry.tag entry.kind) past →
     All (λ entry. IsPlainKind count contents entry.tag entry.kind) (grown tag kinds past)
 grown_is_plain count contents tag [] past kinds_plain plain = plain

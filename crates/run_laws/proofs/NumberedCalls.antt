@@ -1,6 +1,6 @@
 -- Calls that are numbered by their actors: no two of them have one tag, the entries of those before a call have smaller
 -- numbers than it, and the data of a write are found by its tag.
-use Rattle.std.proofs.Common.{ℕ, ◌≡◌, ◌+◌, ◌<◌, Bool, true, false, cond, List, [], ◌∷◌, ◌++◌, refl, sym, ap, subst, ◌∙◌, inl, inr, append_assoc, append-nil, arith, eqb-true}
+use Rattle.std.proofs.Common.{ℕ, ◌≡◌, ◌+◌, ◌<◌, ◌≤◌, Bool, true, false, cond, List, [], ◌∷◌, ◌++◌, refl, sym, ap, subst, ◌∙◌, inl, inr, append_assoc, append-nil, arith, eqb-true}
 use Rattle.std.specs.Prelude.{◌⊎◌, ◌&&◌, ◌||◌, ◌==◌, nat_le, not, All, count_by, sum_by}
 use Rattle.std.specs.List.{cons_option, list_any}
 use Rattle.std.proofs.lemmas.Bool.Decides.{nat_tests}
@@ -91,13 +91,20 @@ known_is_below counts (call ∷ calls) entry below known =
       | inr later ↦ known_is_below counts calls entry (All-tail (λ (other : TraceCall). IsBelow counts other.tag) call calls below) later
     ]
 
--- a tag whose number is the count differs from those below, and is no earlier than they
-pub other_tag : (counts : ℕ → ℕ) (tag other : Tag) → tag.call ≡ counts tag.actor → IsBelow counts other → is_same_tag tag other ≡ false
-other_tag counts tag other number below =
+-- a tag whose number is no less than the count differs from those below
+pub later_tag : (counts : ℕ → ℕ) (tag other : Tag) → counts tag.actor ≤ tag.call →
+    IsBelow counts other → is_same_tag tag other ≡ false
+later_tag counts tag other late below =
     not_true (is_same_tag tag other) (λ same.
     let parts = same_parts tag other same in
     let moved : counts tag.actor ≡ counts other.actor = ap counts parts.0 in
-    absurd (omega (arith, number, below, moved, parts.1)))
+    absurd (omega (arith, late, below, moved, parts.1)))
+
+-- so does one whose number is the count, and it is no earlier than they
+pub other_tag : (counts : ℕ → ℕ) (tag other : Tag) → tag.call ≡ counts tag.actor →
+    IsBelow counts other → is_same_tag tag other ≡ false
+other_tag counts tag other number below =
+    later_tag counts tag other (omega (arith, number)) below
 
 later_by : (same at_most : Bool) → (same ≡ true → at_most ≡ true) → (not same || at_most) ≡ true
 later_by true at_most holds = holds refl

@@ -11,16 +11,16 @@ use Rattle.ssd_geo.specs.Cells.{sensed}
 use Rattle.ssd_geo.specs.Coding.{Coding, coding_of}
 use Rattle.ssd_geo.specs.History.{look_of}
 use Rattle.ssd_geo.specs.Ladder.{asks, other_places, recovered}
-use Rattle.ssd_geo.specs.PastPages.{StoredPage, ladder_of, ladder_over, levels_in, page_of, senses_of}
+use Rattle.ssd_geo.specs.PastPages.{ladder_of, ladder_over, levels_in, page_of, senses_of}
 use Rattle.ssd_geo.specs.PlainMap.{bytes, plain_of}
 use Rattle.ssd_geo.specs.Replies.{bytes_of_word}
 use Rattle.ssd_geo.specs.Start.{Start}
 use Rattle.ssd_geo.specs.Stripe.{place_of_slot}
-use Rattle.run_laws.specs.ServedCalls.{after_look, after_sense, first_sense}
-use Rattle.run_laws.specs.ServedPasts.{PagesAreReadAtOnce, ReadsBack, WordIsRead}
+use Rattle.run_laws.specs.FirstSenses.{PagesAreReadAtOnce, ReadsBack, WordIsRead, after_sense, first_sense}
+use Rattle.run_laws.specs.ServedCalls.{after_look}
 use Rattle.run_laws.proofs.FirstLadders.{asks_first, recovers_first}
 use Rattle.run_laws.proofs.LookSenses.{none_sensed}
-use Rattle.run_laws.proofs.WrittenPages.{HoldsWord, rows_hold}
+use Rattle.run_laws.proofs.WrittenPages.{HasFreshCells, HoldsWord, rows_have_fresh_cells}
 
 -- the look of a read
 abbrev read_look : ℕ → Slot → ℕ → Bool → List Entry → Look
@@ -96,26 +96,26 @@ sense_recovers coding start contents tag row slot serial closed level past word 
     ∙ recovers_first coding (coding.has_head serial row) place (other_places dies place) closed level word word is_first is_found has_head
 
 pub pages_are_read : PagesAreReadAtOnce
-pages_are_read start contents past tag row slot serial closed plain lt is =
-    let reads : ReadsBack start.base = plain.is_plain_start.reads_back in
-    let holds : HoldsWord start.base serial row (page_of (coding_of start.base) start contents past (place_of_slot start.base.shape.dies slot)) (plain_of start.base contents past row) =
-    rows_hold start contents past row plain lt slot serial is in
-    let read : WordIsRead start.base reads.level serial row holds.data_bytes = reads.words serial row holds.data_bytes holds.is_data in
+pages_are_read start contents past tag row slot serial closed unaged lt is =
+    let reads : ReadsBack start.base = unaged.reads_back in
+    let held : HoldsWord (HasFreshCells start.base) start.base serial row (page_of (coding_of start.base) start contents past (place_of_slot start.base.shape.dies slot)) (plain_of start.base contents past row) =
+    rows_have_fresh_cells start contents past row unaged.is_plain unaged.no_ageing lt slot serial is in
+    let read : WordIsRead start.base reads.level serial row held.data_bytes = reads.words serial row held.data_bytes held.is_data in
     let none : senses_of (coding_of start.base) start contents past (length past) ≡ [] =
-    none_sensed (ladder_of (coding_of start.base) start contents) (coding_of start.base) start contents past (length past) plain.is_lawful (same_length (length past)) in
-    let sense_is : first_sense start contents tag row slot serial closed reads.level past ≡ (coding_of start.base).encoded serial row holds.data_bytes =
-    ap (λ (page : Option StoredPage). sensed reads.level (levels_in start.base page)) holds.page_is ∙ read.sense_is holds.number holds.erases in
+    none_sensed (ladder_of (coding_of start.base) start contents) (coding_of start.base) start contents past (length past) unaged.is_plain.is_lawful (same_length (length past)) in
+    let sense_is : first_sense start contents tag row slot serial closed reads.level past ≡ (coding_of start.base).encoded serial row held.data_bytes =
+    ap (sensed reads.level) held.holds.levels_are ∙ read.sense_is held.holds.number held.holds.erases in
     record {
       level = reads.level;
       is_first = reads.is_first;
       asks_first = look_asks (coding_of start.base) start contents tag row slot serial closed reads.level past reads.is_first none;
       is_recovered =
-          sense_recovers (coding_of start.base) start contents tag row slot serial closed reads.level past ((coding_of start.base).encoded serial row holds.data_bytes)
+          sense_recovers (coding_of start.base) start contents tag row slot serial closed reads.level past ((coding_of start.base).encoded serial row held.data_bytes)
           reads.is_first none sense_is read.is_found read.has_head
           ∙ ap (recovered 0) (sym sense_is);
       fails_none = ap ((coding_of start.base).failed) sense_is ∙ read.fails_none;
       has_head = ap ((coding_of start.base).has_head serial row) sense_is ∙ read.has_head;
-      is_plain = holds.row_holds ∙ ap bytes (sym (ap (bytes_of_word start.base.shape.bytes) sense_is ∙ read.has_data));
+      is_plain = held.row_holds ∙ ap bytes (sym (ap (bytes_of_word start.base.shape.bytes) sense_is ∙ read.has_data));
     }
   where
     same_length : (n : ℕ) → n ≤ n

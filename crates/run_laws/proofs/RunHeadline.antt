@@ -1,131 +1,326 @@
--- When all calls of a trace were served, the statement on a whole run holds.
-use Rattle.std.proofs.Common.{ℕ, ◌≡◌, ◌+◌, ◌<◌, ◌≤◌, ◌==◌, Bool, true, false, nat_lt, List, [], ◌∷◌, length, map, filter, Some, refl, sym, ap, subst, ◌∙◌, arith, lt-ltb}
-use Rattle.std.specs.Prelude.{All, IsTrue, count_by, is_some, slice_index_or, unwrap_or}
+-- The statement on a whole run, from what holds after some calls were served: these have their replies, and the
+-- calls after them have no entry and no reply. So it holds when all calls were served.
+use Rattle.std.proofs.Common.{ℕ, ◌≡◌, ◌+◌, ◌-◌, ◌<◌, ◌≤◌, ◌==◌, Bool, true, false, nat_lt, List, [], ◌∷◌, ◌++◌, None, length, map, filter, refl, sym, ap, subst, ◌∙◌, append-nil, arith, lt-ltb}
+use Rattle.std.specs.Prelude.{All, IsTrue, count_by, is_some, slice_index_or}
 use Rattle.std.specs.List.{list_all}
 use Rattle.std.specs.Option.{ForSome}
+use Rattle.std.proofs.lemmas.Bool.Decides.{nat_tests}
 use Rattle.std.proofs.lemmas.List.{length-map}
-use Rattle.std.proofs.lemmas.List.Elements.{All-weaker}
+use Rattle.std.proofs.lemmas.List.Elements.{All-append, All-nil, All-weaker}
 use Rattle.std.proofs.lemmas.List.Sums.{length-filter, list_all-from_AllPass}
-use Rattle.std.proofs.lemmas.Option.{get_or_from_slice_get, slice_get_within}
-use Rattle.ssd_geo.specs.CallsInOrder.{AreCallsInOrder, AreReplies, ChannelRun, IsAsAnswered, IsReplyOf, IsWhole, answered_by, is_of_call, never_fall, reply_to}
-use Rattle.ssd_geo.specs.History.{history_of}
+use Rattle.std.proofs.lemmas.Option.{get_or_from_slice_get, none-some, slice_get_within}
+use Rattle.ssd_geo.specs.CallSteps.{steps_of}
+use Rattle.ssd_geo.specs.CallsInOrder.{AreCallsInOrder, AreReplies, ChannelRun, IsAsAnswered, IsNotMade, IsReplyOf, IsWhole, answered_by, is_of_call, never_fall, reply_to}
+use Rattle.ssd_geo.specs.History.{history_of, open_looks}
 use Rattle.ssd_geo.specs.ImageContents.{Saved}
 use Rattle.ssd_geo.specs.ImageHead.{Head}
 use Rattle.ssd_geo.specs.Input.{Input}
 use Rattle.ssd_geo.specs.Lawful.{IsLawful}
+use Rattle.ssd_geo.specs.SerialHistory.{AreServed, SerialState, first_state, most_hints}
 use Rattle.ssd_geo.specs.Start.{Start}
-use Rattle.ssd_geo.specs.TraceText.{is_of_actor, kind_of_verb}
+use Rattle.ssd_geo.specs.TraceText.{is_of_actor, kind_of_verb, kinds_of_actor}
 use Rattle.ssd_geo.specs.declared.entry.Entry.{Entry}
 use Rattle.ssd_geo.specs.declared.reply.Reply.{Reply}
 use Rattle.ssd_geo.specs.declared.tag.Tag.{Tag}
 use Rattle.ssd_geo.specs.declared.trace.TraceCall.{TraceCall}
 use Rattle.run_laws.specs.Headline.{AreRunsOf, Headline, ReadsLastWrite, contents_in}
 use Rattle.run_laws.specs.ServedPasts.{IsPlainPast}
-use Rattle.run_laws.specs.ServedRuns.{AreStartsOf, HoldsOfRun, IsAnswered, IsServedRun, ServedRunsHold, runs_with}
-use Rattle.run_laws.proofs.ChangedRuns.{all_numbered, all_of_pasts}
-use Rattle.run_laws.proofs.LookedPasts.{reads_last_write}
-use Rattle.run_laws.proofs.NewCalls.{all_both}
-use Rattle.run_laws.proofs.NumberedCalls.{IsBelow, actors_are_below, counts_in, numbers_are_below}
+use Rattle.run_laws.specs.ServedRuns.{AreNumberedAfter, AreStartsOf, HoldsOfRun, IsAnswered, IsServedRun, ServedRunsHold, hints_in, runs_with}
+use Rattle.run_laws.specs.StoppedRuns.{IsPlainVerb}
+use Rattle.run_laws.proofs.ChangedRuns.{all_both, all_numbered, all_of_pasts, runs_as_many}
+use Rattle.run_laws.proofs.GrownPasts.{known_with_more, no_steps, past_is_below}
+use Rattle.run_laws.proofs.MadeReads.{same_held}
+use Rattle.run_laws.proofs.NumberedCalls.{IsBelow, actors_are_below, counts_in, numbered_front, numbers_are_below}
+use Rattle.run_laws.proofs.UnservedCalls.{IsLater, are_later, as_unanswered, begun_with_none, counts_grow, no_reply_to}
 
 -- the runs are those of the image's channels
-runs_begin : (head : Head) (channel : ℕ) (saved : List Saved) (starts : List Start) (pasts : List (List Entry)) → length pasts ≡ length starts → AreStartsOf head channel saved starts → AreRunsOf head channel saved (runs_with starts pasts)
+pub runs_begin : (head : Head) (channel : ℕ) (saved : List Saved) (starts : List Start)
+    (pasts : List (List Entry)) → length pasts ≡ length starts →
+    AreStartsOf head channel saved starts → AreRunsOf head channel saved (runs_with starts pasts)
 runs_begin head channel [] [] pasts many are = tt
 runs_begin head channel [] (start ∷ starts) pasts many are = absurd are
 runs_begin head channel (first ∷ more) [] pasts many are = absurd are
 runs_begin head channel (first ∷ more) (start ∷ starts) [] many are = absurd (omega arith)
-runs_begin head channel (first ∷ more) (start ∷ starts) (past ∷ pasts) many are = (are.0, runs_begin head (channel + 1) more starts pasts (omega arith) are.1)
+runs_begin head channel (first ∷ more) (start ∷ starts) (past ∷ pasts) many are =
+    (are.0, runs_begin head (channel + 1) more starts pasts (omega arith) are.1)
 
 -- and their histories are printed
-are_printed : (starts : List Start) (pasts : List (List Entry)) → length pasts ≡ length starts → map history_of pasts ≡ map (λ run. history_of run.past) (runs_with starts pasts)
+pub are_printed : (starts : List Start) (pasts : List (List Entry)) → length pasts ≡ length starts →
+    map history_of pasts ≡ map (λ run. history_of run.past) (runs_with starts pasts)
 are_printed [] [] many = refl
 are_printed [] (past ∷ pasts) many = absurd (omega arith)
 are_printed (start ∷ starts) [] many = absurd (omega arith)
 are_printed (start ∷ starts) (past ∷ pasts) many =
-    ap {B = List (List Entry)} (λ (histories : List (List Entry)). history_of past ∷ histories) (are_printed starts pasts (omega arith))
+    ap {B = List (List Entry)} (λ (histories : List (List Entry)). history_of past ∷ histories)
+    (are_printed starts pasts (omega arith))
+
+-- and each began with its start
+starts_of_runs : (starts : List Start) (pasts : List (List Entry)) → length pasts ≡ length starts →
+    map (λ run. run.start) (runs_with starts pasts) ≡ starts
+starts_of_runs [] [] many = refl
+starts_of_runs [] (past ∷ pasts) many = absurd (omega arith)
+starts_of_runs (start ∷ starts) [] many = absurd (omega arith)
+starts_of_runs (start ∷ starts) (past ∷ pasts) many =
+    ap {B = List Start} (λ (more : List Start). start ∷ more)
+    (starts_of_runs starts pasts (omega arith))
+
+-- an actor has as many kinds of calls as calls
+pub kinds_are_calls : (calls : List TraceCall) (actor : ℕ) →
+    length (kinds_of_actor calls actor) ≡ counts_in calls actor
+kinds_are_calls calls actor =
+    length-map (filter (is_of_actor actor) calls) (λ call. kind_of_verb call.verb)
+    ∙ length-filter (is_of_actor actor) calls
 
 -- a call that has its reply was made whole
-as_answered : (contents : List (Tag × List ℕ)) (runs : List ChannelRun) (answered is_first : Bool) (call : TraceCall) → answered ≡ true → IsWhole contents runs call → IsAsAnswered contents runs answered is_first call
+as_answered : (contents : List (Tag × List ℕ)) (runs : List ChannelRun) (answered is_first : Bool)
+    (call : TraceCall) → answered ≡ true → IsWhole contents runs call →
+    IsAsAnswered contents runs answered is_first call
 as_answered contents runs true is_first call is whole = whole
 as_answered contents runs false is_first call is whole = absurd (grind arith)
 
-same_held : {A : Type 0} (x y : A) → Some x ≡ Some y → x ≡ y
-same_held x y same = ap (λ option. unwrap_or option x) same
+-- a fact of a call's reply, where it has one
+of_reply : (contents : List (Tag × List ℕ)) (runs : List ChannelRun) (replies : List (List Reply))
+    (call : TraceCall) (answered : IsAnswered contents runs replies call) (P : Reply → Type 0) →
+    P answered.reply → ForSome (reply_to replies call.tag) P
+of_reply contents runs replies call answered P holds =
+    λ reply is. subst P (same_held answered.reply reply (sym answered.is_there ∙ is)) holds
 
--- a fact of a call's reply
-of_reply : (contents : List (Tag × List ℕ)) (runs : List ChannelRun) (replies : List (List Reply)) (call : TraceCall) (answered : IsAnswered contents runs replies call) (P : Reply → Type 0) → P answered.reply → ForSome (reply_to replies call.tag) P
-of_reply contents runs replies call answered P holds = λ reply is. subst P (same_held answered.reply reply (sym answered.is_there ∙ is)) holds
+of_no_reply : (replies : List (List Reply)) (tag : Tag) (P : Reply → Type 0) →
+    reply_to replies tag ≡ None → ForSome (reply_to replies tag) P
+of_no_reply replies tag P none = λ reply is. absurd (none-some reply (sym none ∙ is))
 
-module _ (input : Input) (starts : List Start) (replies : List (List Reply)) (pasts : List (List Entry)) (served : IsServedRun input starts input.calls.calls replies pasts) where
-  all_below : All (λ call. IsBelow (counts_in input.calls.calls) call.tag) input.calls.calls
-  all_below = numbers_are_below input.calls.actors [] input.calls.calls served.is_served_from.numbered
+-- some calls of an input were served, and these are the calls after them
+pub record HasServed (input : Input) (starts : List Start) (done rest : List TraceCall)
+    (replies : List (List Reply)) (pasts : List (List Entry)) : Type 0 where
+  pub served : IsServedRun input starts done replies pasts
+  pub are_calls : input.calls.calls ≡ done ++ rest
+  pub plain_verbs : All (λ call. IsPlainVerb call.verb) rest
 
-  low_actors : All (λ call. call.tag.actor < input.calls.actors) input.calls.calls
-  low_actors = actors_are_below input.calls.actors [] input.calls.calls served.is_served_from.numbered
+module _ {input : Input} {starts : List Start} {done rest : List TraceCall}
+    {replies : List (List Reply)} {pasts : List (List Entry)}
+    (so_far : HasServed input starts done rest replies pasts) where
+  abbrev served : IsServedRun input starts done replies pasts
+  served = so_far.served
 
-  is_answered : (call : TraceCall) → call.tag.actor < input.calls.actors → IsBelow (counts_in input.calls.calls) call.tag → nat_lt call.tag.call (answered_by replies call.tag.actor) ≡ true
+  abbrev runs : List ChannelRun
+  runs = runs_with starts pasts
+
+  numbered : AreNumberedAfter input.calls.actors [] (done ++ rest)
+  numbered =
+      subst (λ calls. AreNumberedAfter input.calls.actors [] calls) so_far.are_calls
+      served.is_served_from.numbered
+
+  numbered_done : AreNumberedAfter input.calls.actors [] done
+  numbered_done = numbered_front input.calls.actors [] done rest numbered
+
+  done_below : All (λ call. IsBelow (counts_in done) call.tag) done
+  done_below = numbers_are_below input.calls.actors [] done numbered_done
+
+  low_actors : All (λ call. call.tag.actor < input.calls.actors) done
+  low_actors = actors_are_below input.calls.actors [] done numbered_done
+
+  pub later : All (IsLater (counts_in done) input.calls.actors) rest
+  later = are_later input.calls.actors done rest numbered
+
+  -- what holds of the calls that were served and of those after them holds of all
+  of_all : (P : TraceCall → Type 0) → All P done → All P rest → All P input.calls.calls
+  of_all P of_done of_rest =
+      subst (λ calls. All P calls) (sym so_far.are_calls) (All-append P done rest of_done of_rest)
+
+  -- the replies are as many as the calls of each actor that were served
+  is_answered : (call : TraceCall) → call.tag.actor < input.calls.actors →
+      IsBelow (counts_in done) call.tag →
+      nat_lt call.tag.call (answered_by replies call.tag.actor) ≡ true
   is_answered call low below =
       let counted = served.counted call.tag.actor low in
       lt-ltb call.tag.call (answered_by replies call.tag.actor) (omega (arith, counted, below))
 
-  in_order : AreCallsInOrder (contents_in input) input.calls.calls replies (runs_with starts pasts)
+  few_answered : (call : TraceCall) → IsLater (counts_in done) input.calls.actors call →
+      answered_by replies call.tag.actor ≤ call.tag.call
+  few_answered call is_later =
+      let counted = served.counted call.tag.actor is_later.is_actor in
+      let late = is_later.is_late in
+      omega (arith, counted, late)
+
+  -- a later call has no reply and no entry
+  pub has_no_reply : (call : TraceCall) → IsLater (counts_in done) input.calls.actors call →
+      reply_to replies call.tag ≡ None
+  has_no_reply call is_later = no_reply_to replies call.tag (few_answered call is_later)
+
+  isnt_made : (call : TraceCall) → IsLater (counts_in done) input.calls.actors call →
+      IsNotMade runs call
+  isnt_made call is_later =
+      all_of_pasts (λ past. steps_of call.tag past ≡ []) starts pasts
+      (All-weaker (λ past. IsTrue (list_all (is_of_call done) past))
+      (λ past. steps_of call.tag past ≡ [])
+      (λ past known. no_steps (counts_in done) call.tag past is_later.is_late
+      (past_is_below (counts_in done) done past done_below known)) pasts served.known)
+
+  closed : All (λ run. open_looks run.past ≡ []) runs
+  closed = all_of_pasts (λ past. open_looks past ≡ []) starts pasts served.none_open
+
+  -- each call was made as its place among its actor's says
+  abbrev AsAnsweredBy : Bool → TraceCall → Type 0
+  AsAnsweredBy answered call =
+      IsAsAnswered (contents_in input) runs answered
+      (call.tag.call == answered_by replies call.tag.actor) call
+
+  abbrev AsAnswered : TraceCall → Type 0
+  AsAnswered call = AsAnsweredBy (nat_lt call.tag.call (answered_by replies call.tag.actor)) call
+
+  served_made : All AsAnswered done
+  served_made =
+      all_both (λ (call : TraceCall). nat_lt call.tag.call (answered_by replies call.tag.actor) ≡ true)
+      (IsWhole (contents_in input) runs) AsAnswered
+      (λ call answered whole. as_answered (contents_in input) runs
+      (nat_lt call.tag.call (answered_by replies call.tag.actor))
+      (call.tag.call == answered_by replies call.tag.actor) call answered whole)
+      done
+      (all_both (λ (call : TraceCall). call.tag.actor < input.calls.actors)
+      (λ (call : TraceCall). IsBelow (counts_in done) call.tag)
+      (λ (call : TraceCall). nat_lt call.tag.call (answered_by replies call.tag.actor) ≡ true)
+      is_answered done low_actors done_below)
+      served.are_whole
+
+  later_unmade : All AsAnswered rest
+  later_unmade =
+      all_both (IsLater (counts_in done) input.calls.actors)
+      (λ (call : TraceCall). IsPlainVerb call.verb) AsAnswered
+      (λ call is_later is_plain.
+      let none = isnt_made call is_later in
+      let few = few_answered call is_later in
+      let unanswered : nat_lt call.tag.call (answered_by replies call.tag.actor) ≡ false =
+      grind (arith, nat_tests) in
+      as_unanswered (contents_in input) runs
+      (nat_lt call.tag.call (answered_by replies call.tag.actor))
+      (call.tag.call == answered_by replies call.tag.actor) call unanswered
+      (begun_with_none (contents_in input) runs call is_plain none closed) none)
+      rest later so_far.plain_verbs
+
+  pub in_order : AreCallsInOrder (contents_in input) input.calls.calls replies runs
   in_order = record {
-    known = all_of_pasts (λ past. IsTrue (list_all (is_of_call input.calls.calls) past)) starts pasts served.known;
+    known =
+        all_of_pasts (λ past. IsTrue (list_all (is_of_call input.calls.calls) past)) starts pasts
+        (subst (λ calls. All (λ past. IsTrue (list_all (is_of_call calls) past)) pasts)
+        (sym so_far.are_calls)
+        (All-weaker (λ past. IsTrue (list_all (is_of_call done) past))
+        (λ past. IsTrue (list_all (is_of_call (done ++ rest)) past))
+        (known_with_more done rest) pasts served.known));
     in_order = all_of_pasts (λ past. IsTrue (never_fall past)) starts pasts served.in_order;
-    made =
-        all_both (λ (call : TraceCall). nat_lt call.tag.call (answered_by replies call.tag.actor) ≡ true) (IsWhole (contents_in input) (runs_with starts pasts))
-        (λ call. IsAsAnswered (contents_in input) (runs_with starts pasts) (nat_lt call.tag.call (answered_by replies call.tag.actor)) (call.tag.call == answered_by replies call.tag.actor) call)
-        (λ call answered whole.
-        as_answered (contents_in input) (runs_with starts pasts) (nat_lt call.tag.call (answered_by replies call.tag.actor)) (call.tag.call == answered_by replies call.tag.actor) call answered whole)
-        input.calls.calls
-        (all_both (λ (call : TraceCall). call.tag.actor < input.calls.actors) (λ (call : TraceCall). IsBelow (counts_in input.calls.calls) call.tag)
-        (λ (call : TraceCall). nat_lt call.tag.call (answered_by replies call.tag.actor) ≡ true) is_answered input.calls.calls low_actors all_below)
-        served.are_whole;
+    made = of_all AsAnswered served_made later_unmade;
   }
 
-  are_replies : AreReplies (contents_in input) input.calls.calls replies (runs_with starts pasts)
+  -- no actor has more replies than calls
+  pub enough_calls : (actor : ℕ) → actor < input.calls.actors →
+      length (slice_index_or replies actor []) ≤ counts_in input.calls.calls actor
+  enough_calls actor low =
+      let counted = served.counted actor low in
+      let grow = counts_grow done rest actor in
+      subst (λ calls. length (slice_index_or replies actor []) ≤ counts_in calls actor)
+      (sym so_far.are_calls) (omega (arith, counted, grow))
+
+  -- what holds of the reply of each served call holds of each call's reply, where there is one
+  pub of_replies : (P : TraceCall → Reply → Type 0) →
+      ((call : TraceCall) (answered : IsAnswered (contents_in input) runs replies call) →
+      P call answered.reply) →
+      All (λ call. ForSome (reply_to replies call.tag) (P call)) input.calls.calls
+  of_replies P holds =
+      of_all (λ call. ForSome (reply_to replies call.tag) (P call))
+      (All-weaker (IsAnswered (contents_in input) runs replies)
+      (λ call. ForSome (reply_to replies call.tag) (P call))
+      (λ call answered. of_reply (contents_in input) runs replies call answered (P call)
+      (holds call answered)) done served.are_answered)
+      (All-weaker (IsLater (counts_in done) input.calls.actors)
+      (λ call. ForSome (reply_to replies call.tag) (P call))
+      (λ call is_later. of_no_reply replies call.tag (P call) (has_no_reply call is_later))
+      rest later)
+
+  pub are_replies : AreReplies (contents_in input) input.calls.calls replies runs
   are_replies = record {
     enough_calls =
-        all_numbered (λ item. length item.1 ≤ count_by (λ call. call.tag.actor == item.0) input.calls.calls) replies
+        all_numbered
+        (λ item. length item.1 ≤ count_by (λ call. call.tag.actor == item.0) input.calls.calls)
+        replies
         (λ actor list is.
         let within = slice_get_within replies actor list is in
         let many = served.as_many_actors in
-        let counted = served.counted actor (omega (arith, within, many)) in
-        let same : length (slice_index_or replies actor []) ≡ length list = ap length (get_or_from_slice_get replies actor list [] is) in
-        omega (arith, counted, same));
+        let enough = enough_calls actor (omega (arith, within, many)) in
+        let same : length (slice_index_or replies actor []) ≡ length list =
+        ap length (get_or_from_slice_get replies actor list [] is) in
+        omega (arith, enough, same));
     are_replies =
-        All-weaker (IsAnswered (contents_in input) (runs_with starts pasts) replies) (λ call. ForSome (reply_to replies call.tag) (IsReplyOf (contents_in input) (runs_with starts pasts) call))
-        (λ call answered. of_reply (contents_in input) (runs_with starts pasts) replies call answered (IsReplyOf (contents_in input) (runs_with starts pasts) call) answered.is_reply)
-        input.calls.calls served.are_answered;
+        of_replies (IsReplyOf (contents_in input) runs) (λ call answered. answered.is_reply);
   }
 
-  headline : Headline input (map history_of pasts) replies
+  pub are_lawful : All (λ run. IsLawful run.start (contents_in input) run.past) runs
+  are_lawful =
+      All-weaker (λ (run : ChannelRun). IsPlainPast run.start (contents_in input) run.past)
+      (λ (run : ChannelRun). IsLawful run.start (contents_in input) run.past)
+      (λ run is_plain. is_plain.is_lawful) runs served.are_plain
+
+  abbrev pub headline : Headline input (map history_of pasts) replies
   headline = record {
-    runs = runs_with starts pasts;
-    are_runs = runs_begin input.head 0 input.channels starts pasts served.as_many served.is_served_from.are_starts;
+    runs = runs;
+    are_runs =
+        runs_begin input.head 0 input.channels starts pasts served.as_many
+        served.is_served_from.are_starts;
     as_many_actors = served.as_many_actors;
     are_printed = are_printed starts pasts served.as_many;
-    are_lawful =
-        All-weaker (λ (run : ChannelRun). IsPlainPast run.start (contents_in input) run.past) (λ (run : ChannelRun). IsLawful run.start (contents_in input) run.past) (λ run plain. plain.is_lawful)
-        (runs_with starts pasts) served.are_plain;
+    are_lawful = are_lawful;
     in_order = in_order;
     are_replies = are_replies;
     last_writes =
-        All-weaker (IsAnswered (contents_in input) (runs_with starts pasts) replies) (λ call. ForSome (reply_to replies call.tag) (ReadsLastWrite (contents_in input) (runs_with starts pasts) call.tag call.verb))
-        (λ call answered. of_reply (contents_in input) (runs_with starts pasts) replies call answered (ReadsLastWrite (contents_in input) (runs_with starts pasts) call.tag call.verb)
-        (reads_last_write (contents_in input) answered.reply (runs_with starts pasts) call.tag call.verb answered.reads_plain))
-        input.calls.calls served.are_answered;
+        of_replies (λ call reply. ReadsLastWrite (contents_in input) runs call.tag call.verb reply)
+        (λ call answered. answered.last_write);
+  }
+
+  -- the run after the calls that were served
+  abbrev pub state : SerialState
+  state = record {
+    channels = runs;
+    hints = served.hints;
+    dropped = hints_in replies - most_hints;
+  }
+
+  -- the calls were served from the starts with which the runs begin
+  pub served_to : (channels : ℕ) (begun : List Start) → channels ≡ length starts → begun ≡ starts →
+      AreServed (contents_in input) replies channels done (first_state begun) state
+  served_to channels begun many same =
+      subst (λ n. AreServed (contents_in input) replies n done (first_state begun) state) (sym many)
+      (subst
+      (λ named. AreServed (contents_in input) replies (length starts) done (first_state named) state)
+      (sym same) served.are_served)
+
+  pub starts_are : map (λ run. run.start) runs ≡ starts
+  starts_are = starts_of_runs starts pasts served.as_many
+
+-- all calls were served
+module _ (input : Input) (starts : List Start) (replies : List (List Reply))
+    (pasts : List (List Entry)) (served : IsServedRun input starts input.calls.calls replies pasts) where
+  abbrev so_far : HasServed input starts input.calls.calls [] replies pasts
+  so_far = record {
+    served = served;
+    are_calls = sym (append-nil input.calls.calls);
+    plain_verbs = All-nil (λ (call : TraceCall). IsPlainVerb call.verb);
   }
 
   holds_of_run : HoldsOfRun input replies pasts
   holds_of_run = record {
-    headline = headline;
+    headline = headline so_far;
+    in_order = record {
+      hints = served.hints;
+      are_served =
+          served_to so_far (length (runs_with starts pasts))
+          (map (λ run. run.start) (runs_with starts pasts))
+          (runs_as_many starts pasts served.as_many) (starts_are so_far);
+    };
     all_answered =
         list_all-from_AllPass (λ call. is_some (reply_to replies call.tag)) input.calls.calls
-        (All-weaker (IsAnswered (contents_in input) (runs_with starts pasts) replies) (λ call. is_some (reply_to replies call.tag) ≡ true) (λ call answered. ap is_some answered.is_there)
-        input.calls.calls served.are_answered);
+        (All-weaker (IsAnswered (contents_in input) (runs_with starts pasts) replies)
+        (λ call. is_some (reply_to replies call.tag) ≡ true)
+        (λ call answered. ap is_some answered.is_there) input.calls.calls served.are_answered);
     as_many_replies = λ actor below.
-        served.counted actor below
-        ∙ sym (length-map (filter (is_of_actor actor) input.calls.calls) (λ call. kind_of_verb call.verb) ∙ length-filter (is_of_actor actor) input.calls.calls);
+        served.counted actor below ∙ sym (kinds_are_calls input.calls.calls actor);
     none_taken = served.none_taken;
   }
 

@@ -2,7 +2,7 @@
 -- history is lawful; the calls of the trace are in order in these histories; each reply is that of its call's own entries,
 -- which for a read is the answer of the ladder over the senses; and where the page that a read looked at, and all copies by
 -- which it came to its slot, were recovered, the read gives the data of the row's latest write. The words are those of
--- every input, with any number of channels, actors and calls.
+-- every input, with any number of channels, actors and calls. Where the calls are served one after the other, it is said in which order.
 use Rattle.std.specs.Prelude.{ℕ, ◌≡◌, ◌+◌, ◌%◌, true, IsTrue, is_some, List, [], ◌∷◌, length, map, All, ⊤}
 use Rattle.std.specs.List.{list_all}
 use Rattle.std.specs.Option.{ForSome}
@@ -17,6 +17,7 @@ use Rattle.ssd_geo.specs.Lawful.{IsLawful}
 use Rattle.ssd_geo.specs.Numbers.{Text}
 use Rattle.ssd_geo.specs.PlainMap.{AreCopiesRecovered, PlainRow, bytes, nothing, past_at, plain_of, untold}
 use Rattle.ssd_geo.specs.RunText.{run_text}
+use Rattle.ssd_geo.specs.SerialHistory.{AreServed, first_state}
 use Rattle.ssd_geo.specs.Start.{Start}
 use Rattle.ssd_geo.specs.TraceText.{contents_of, kinds_of_trace}
 use Rattle.ssd_geo.specs.declared.entry.Entry.{Entry}
@@ -76,7 +77,15 @@ pub record Headline (input : Input) (histories : List (List Entry)) (replies : L
       All (λ call. ForSome (reply_to replies call.tag) (ReadsLastWrite (contents_in input) runs call.tag call.verb))
       input.calls.calls
 
--- a text is that of a whole run of an input: every call has its reply
+-- the calls of an input were served one after the other, in the order of its trace, each with its reply, and led these
+-- channels from their starts to where they are; so many hints were dropped
+pub record IsServedInOrder (input : Input) (replies : List (List Reply)) (runs : List ChannelRun) (dropped : ℕ) : Type 0 where
+  pub hints : List ℕ
+  pub are_served :
+      AreServed (contents_in input) replies (length runs) input.calls.calls (first_state (map (λ run. run.start) runs))
+      (record { channels = runs; hints = hints; dropped = dropped })
+
+-- a text is that of a whole run of an input, whose calls were served one after the other: every call has its reply
 pub record IsTextOf (input : Input) (text : Text) : Type 0 where
   pub histories : List (List Entry)
   pub replies : List (List Reply)
@@ -84,3 +93,4 @@ pub record IsTextOf (input : Input) (text : Text) : Type 0 where
   pub is_text : text ≡ run_text true (length input.head.read_levels) histories (kinds_of_trace input.calls) replies dropped
   pub all_answered : IsTrue (list_all (λ call. is_some (reply_to replies call.tag)) input.calls.calls)
   pub headline : Headline input histories replies
+  pub in_order : IsServedInOrder input replies headline.runs dropped

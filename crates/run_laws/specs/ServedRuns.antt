@@ -1,18 +1,17 @@
 -- What holds of a run after some of its calls were served one after the other, and what after all of them? Each channel has a
--- lawful past of writes, trims and reads; the calls so far are whole in these pasts and have their replies; and none
--- of the calls to come has an entry.
-use Rattle.std.specs.Prelude.{ℕ, ◌≡◌, ◌<◌, ◌+◌, ◌%◌, IsTrue, is_some, List, [], ◌∷◌, ◌++◌, length, map, replicate, All, count_by, sum_by, slice_get, slice_set, slice_index_or, Option, Some, None, ⊤}
+-- lawful past of writes, trims, reads and ageings; the calls so far are whole in these pasts, were served in order and have their
+-- replies; and none of the calls to come has an entry.
+use Rattle.std.specs.Prelude.{ℕ, ◌≡◌, ◌<◌, nat_lt, ◌+◌, ◌-◌, ◌%◌, IsTrue, is_some, List, [], ◌∷◌, ◌++◌, length, map, replicate, All, count_by, sum_by, slice_get, slice_set, slice_index_or, Option, Some, None, ⊤}
 use Rattle.std.specs.List.{list_all}
-use Rattle.std.specs.Option.{ForSome}
-use Rattle.ssd_geo.specs.CallSteps.{position_of}
-use Rattle.ssd_geo.specs.CallsInOrder.{ChannelRun, IsReplyOf, IsWhole, OfRun, is_of_call, never_fall, reply_to, steps_on}
-use Rattle.ssd_geo.specs.History.{history_of, look_made, open_looks}
+use Rattle.ssd_geo.specs.CallsInOrder.{ChannelRun, IsReplyOf, IsWhole, is_of_call, never_fall, reply_to}
+use Rattle.ssd_geo.specs.History.{history_of, open_looks}
 use Rattle.ssd_geo.specs.ImageContents.{Saved}
 use Rattle.ssd_geo.specs.ImageHead.{Head}
 use Rattle.ssd_geo.specs.Input.{Input}
 use Rattle.ssd_geo.specs.Lawful.{IsLawful}
-use Rattle.ssd_geo.specs.PlainMap.{plain_of}
-use Rattle.ssd_geo.specs.RunText.{taken_by}
+use Rattle.ssd_geo.specs.Room.{has_host_room}
+use Rattle.ssd_geo.specs.RunText.{is_hinted, taken_by}
+use Rattle.ssd_geo.specs.SerialHistory.{AreServed, first_state, most_hints}
 use Rattle.ssd_geo.specs.Start.{Start, data_of}
 use Rattle.ssd_geo.specs.TraceText.{content_bytes, contents_of, is_of_actor, kinds_of_actor}
 use Rattle.ssd_geo.specs.declared.entry.Entry.{Entry}
@@ -21,9 +20,10 @@ use Rattle.ssd_geo.specs.declared.tag.Tag.{Tag}
 use Rattle.ssd_geo.specs.declared.trace.Content.{Content}
 use Rattle.ssd_geo.specs.declared.trace.TraceCall.{TraceCall}
 use Rattle.ssd_geo.specs.declared.trace.Verb.{Verb}
-use Rattle.run_laws.specs.Headline.{BeginsAs, GivesPlain, Headline, contents_in}
+use Rattle.run_laws.specs.Headline.{BeginsAs, Headline, IsServedInOrder, ReadsLastWrite, contents_in}
 use Rattle.run_laws.specs.ServedCalls.{IsServedBy}
 use Rattle.run_laws.specs.ServedPasts.{IsData, IsPlainPast, IsPlainStart}
+use Rattle.run_laws.specs.WrittenRoom.{HasBlankBlocks, pages_that_fit, writes_in, writes_to}
 
 -- a call's tag has an actor of the trace, and as its number that of its actor's calls before it
 pub record IsNumberedAfter (actors : ℕ) (before : List TraceCall) (call : TraceCall) : Type 0 where
@@ -65,21 +65,16 @@ runs_with [] pasts = []
 runs_with (start ∷ starts) [] = []
 runs_with (start ∷ starts) (past ∷ pasts) = record { start = start; past = past } ∷ runs_with starts pasts
 
--- the reply of a read gives what the row held by its writes and trims at the call's own look
-abbrev pub ReadsPlain : List (Tag × List ℕ) → List ChannelRun → Tag → Verb → Reply → Type 0
-ReadsPlain contents runs tag (Verb.Read page) reply =
-    OfRun runs (page % length runs)
-    (λ run. All
-    (λ step. ForSome (look_made (position_of step) step.entry.kind) (λ look. GivesPlain (plain_of run.start.base contents step.past look.row) reply))
-    (steps_on tag run))
-ReadsPlain contents runs tag verb reply = ⊤
-
--- a call has its reply, which is that of its entries; and that of a read gives the row's data
+-- a call has its reply, which is that of its entries; and that of a read gives the last write's data, where the page was recovered
 pub record IsAnswered (contents : List (Tag × List ℕ)) (runs : List ChannelRun) (replies : List (List Reply)) (call : TraceCall) : Type 0 where
   pub reply : Reply
   pub is_there : reply_to replies call.tag ≡ Some reply
   pub is_reply : IsReplyOf contents runs call reply
-  pub reads_plain : ReadsPlain contents runs call.tag call.verb reply
+  pub last_write : ReadsLastWrite contents runs call.tag call.verb reply
+
+-- how many of some replies are hints: data of a rung that isn't 0
+abbrev pub hints_in : List (List Reply) → ℕ
+hints_in replies = sum_by (count_by is_hinted) replies
 
 -- what holds of a run after these calls
 pub record IsServedRun (input : Input) (starts : List Start) (done : List TraceCall) (replies : List (List Reply)) (pasts : List (List Entry)) : Type 0 where
@@ -94,6 +89,13 @@ pub record IsServedRun (input : Input) (starts : List Start) (done : List TraceC
   pub are_whole : All (λ call. IsWhole (contents_in input) (runs_with starts pasts) call) done
   pub are_answered : All (IsAnswered (contents_in input) (runs_with starts pasts) replies) done
   pub as_many_actors : length replies ≡ input.calls.actors
+  pub hints : List ℕ
+  pub hints_kept : length hints + (hints_in replies - most_hints) ≡ hints_in replies
+  pub are_served :
+      AreServed (contents_in input) replies (length starts) done (first_state starts)
+      (record { channels = runs_with starts pasts; hints = hints; dropped = hints_in replies - most_hints })
+  pub writes_counted :
+      (channel : ℕ) (past : List Entry) → slice_get pasts channel ≡ Some past → writes_in past ≡ writes_to (length starts) channel done
   pub counted : (actor : ℕ) → actor < input.calls.actors → length (slice_index_or replies actor []) ≡ count_by (is_of_actor actor) done
   pub none_taken : sum_by (sum_by taken_by) replies ≡ 0
 
@@ -101,11 +103,12 @@ pub record IsServedRun (input : Input) (starts : List Start) (done : List TraceC
 abbrev pub with_reply : List (List Reply) → ℕ → Reply → List (List Reply)
 with_reply replies actor reply = slice_set replies actor (slice_index_or replies actor [] ++ reply ∷ [])
 
--- the channel of a call that has a page, with so many channels
+-- the channel of a call that has a page or names a channel, with so many channels
 abbrev pub channel_of : ℕ → Verb → Option ℕ
 channel_of channels (Verb.Write page content) = Some (page % channels)
 channel_of channels (Verb.Read page) = Some (page % channels)
 channel_of channels (Verb.Trim page) = Some (page % channels)
+channel_of channels (Verb.Age channel die sb amount) = Some channel
 channel_of channels verb = None
 
 -- it holds before the first call
@@ -132,9 +135,10 @@ ServesOneMore =
     ServesNext input starts pasts call reply channel after →
     IsServedRun input starts (done ++ call ∷ []) (with_reply replies call.tag.actor reply) (slice_set pasts channel after)
 
--- what holds when all calls were served
+-- what holds when all calls were served: the queue of hints, from which none was taken, has dropped those past its room
 pub record HoldsOfRun (input : Input) (replies : List (List Reply)) (pasts : List (List Entry)) : Type 0 where
   pub headline : Headline input (map history_of pasts) replies
+  pub in_order : IsServedInOrder input replies headline.runs (hints_in replies - most_hints)
   pub all_answered : IsTrue (list_all (λ call. is_some (reply_to replies call.tag)) input.calls.calls)
   pub as_many_replies :
       (actor : ℕ) → actor < input.calls.actors →
@@ -145,6 +149,14 @@ abbrev pub ServedRunsHold : Type 0
 ServedRunsHold =
     (input : Input) (starts : List Start) (replies : List (List Reply)) (pasts : List (List Entry)) →
     IsServedRun input starts input.calls.calls replies pasts → HoldsOfRun input replies pasts
+
+-- a write finds room exactly while fewer pages than fit were written to its channel before it
+abbrev pub ServedRunsHaveRoom : Type 0
+ServedRunsHaveRoom =
+    (input : Input) (starts : List Start) (done : List TraceCall) (replies : List (List Reply)) (pasts : List (List Entry)) (channel : ℕ) (start : Start) (past : List Entry) →
+    IsServedRun input starts done replies pasts → slice_get starts channel ≡ Some start → slice_get pasts channel ≡ Some past →
+    HasBlankBlocks start.base →
+    has_host_room start.base past ≡ nat_lt (writes_to (length starts) channel done) (pages_that_fit start.base)
 
 -- the tag of a write gives its data
 abbrev pub TagsGiveData : Type 0

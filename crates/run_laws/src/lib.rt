@@ -5,5 +5,8 @@
 mod pages;
 mod serving;
 
-pub use pages::{no_page_is_lost, pages_are_read_at_once};
-pub use serving::{served_runs_hold, serves_one_more, serving_begins, tags_give_data};
+pub use pages::{no_page_is_lost, pages_are_read_at_once, plain_pasts_have_room};
+pub use serving::{
+    served_runs_have_room, served_runs_hold, served_runs_stop, serves_one_more, serving_begins,
+    tags_give_data,
+};

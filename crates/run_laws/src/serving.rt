@@ -1,5 +1,6 @@
 //! Laws of runs whose calls are served one after the other.
-ghost use Rattle.run_laws.specs.ServedRuns.{ServedRunsHold, ServesOneMore, ServingBegins, TagsGiveData};
+ghost use Rattle.run_laws.specs.StoppedRuns.{ServedRunsStop};
+ghost use Rattle.run_laws.specs.ServedRuns.{ServedRunsHaveRoom, ServedRunsHold, ServesOneMore, ServingBegins, TagsGiveData};
 
 /// Before the first call all that is asked of a run so far holds.
 pub fn serving_begins()
@@ -19,4 +20,14 @@ pub fn served_runs_hold()
 /// The data of a write are found by its call's tag.
 pub fn tags_give_data()
     ensures { TagsGiveData }
+{}
+
+/// A write of such a run finds room exactly while fewer pages than fit were written to its channel.
+pub fn served_runs_have_room()
+    ensures { ServedRunsHaveRoom }
+{}
+
+/// Where a call finds no room in its channel's history, the statement holds of the calls before it.
+pub fn served_runs_stop()
+    ensures { ServedRunsStop }
 {}

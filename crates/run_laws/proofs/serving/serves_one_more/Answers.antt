@@ -1,6 +1,5 @@
-use Rattle.run_laws.proofs.ReadPages.{pages_are_read}
 use Rattle.run_laws.proofs.ServedNext.{serves_one_more}
 use Rattle.run_laws.proofs.serving.serves_one_more.Goals as goal
 
 pub returns : goal.returns
-returns c = serves_one_more pages_are_read
+returns c = serves_one_more

@@ -1,0 +1,124 @@
+-- The senses of a look, which its call made one after the other: the entries that they are, and the call's steps. None decides
+-- the reply of a read, and none opens or leaves a look.
+use Rattle.std.proofs.Common.{ℕ, ◌≡◌, true, List, [], ◌∷◌, ◌++◌, ℤ, Option, None, refl, sym, ◌∙◌, append_assoc, append-nil}
+use Rattle.std.specs.Prelude.{All}
+use Rattle.std.specs.List.{list_all}
+use Rattle.std.specs.Option.{ForSome}
+use Rattle.std.proofs.lemmas.List.Elements.{All-cons}
+use Rattle.ssd_geo.specs.CallSteps.{CallStep, is_sense_of, position_of, steps_of}
+use Rattle.ssd_geo.specs.History.{look_made, open_looks}
+use Rattle.ssd_geo.specs.Lawful.{IsLawfulBy}
+use Rattle.ssd_geo.specs.Ladder.{LadderState}
+use Rattle.ssd_geo.specs.Replies.{first_reply}
+use Rattle.ssd_geo.specs.SerialCalls.{AreStepsFrom, entry_of}
+use Rattle.ssd_geo.specs.declared.base.ChannelBase.{ChannelBase}
+use Rattle.ssd_geo.specs.declared.entry.Entry.{Entry}
+use Rattle.ssd_geo.specs.declared.kind.Kind.{Kind}
+use Rattle.ssd_geo.specs.declared.look.Look.{Look}
+use Rattle.ssd_geo.specs.declared.place.Place.{Place}
+use Rattle.ssd_geo.specs.declared.tag.Tag.{Tag}
+use Rattle.ssd_geo.proofs.TextLaws.{same_byte}
+use Rattle.run_laws.specs.ServedCalls.{after_senses}
+use Rattle.run_laws.proofs.GrownPasts.{faults_in, grown, one_step_more}
+
+-- the kinds of some senses, the newest first, before older ones
+abbrev pub sense_kinds : ℕ → List (Place × ℤ) → List Kind → List Kind
+sense_kinds at [] kinds = kinds
+sense_kinds at (sensed ∷ more) kinds = sense_kinds at more (Kind.Sense at sensed.0 sensed.1 ∷ kinds)
+
+pub senses_grow : (tag : Tag) (at : ℕ) (senses : List (Place × ℤ)) (kinds : List Kind)
+    (past : List Entry) →
+    after_senses tag at senses (grown tag kinds past) ≡ grown tag (sense_kinds at senses kinds) past
+senses_grow tag at [] kinds past = refl
+senses_grow tag at (sensed ∷ more) kinds past =
+    senses_grow tag at more (Kind.Sense at sensed.0 sensed.1 ∷ kinds) past
+
+-- what holds of each sense and of the older kinds holds of all
+pub all_sense_kinds : (P : Kind → Type 0) (at : ℕ) (senses : List (Place × ℤ)) (kinds : List Kind) →
+    ((place : Place) (level : ℤ) → P (Kind.Sense at place level)) → All P kinds →
+    All P (sense_kinds at senses kinds)
+all_sense_kinds P at [] kinds each all = all
+all_sense_kinds P at (sensed ∷ more) kinds each all =
+    all_sense_kinds P at more (Kind.Sense at sensed.0 sensed.1 ∷ kinds) each
+    (All-cons P (Kind.Sense at sensed.0 sensed.1) kinds (each sensed.0 sensed.1) all)
+
+-- the steps of some senses, from a past on
+abbrev pub sense_steps : Tag → ℕ → List (Place × ℤ) → List Entry → List CallStep
+sense_steps tag at [] past = []
+sense_steps tag at (sensed ∷ more) past =
+    record { past = past; entry = entry_of tag (Kind.Sense at sensed.0 sensed.1) } ∷ sense_steps tag at more (entry_of tag (Kind.Sense at sensed.0 sensed.1) ∷ past)
+
+module _ (tag : Tag) (at : ℕ) where
+  pub senses_are_steps : (senses : List (Place × ℤ)) (past : List Entry) (steps : List CallStep) →
+      steps_of tag past ≡ steps →
+      steps_of tag (after_senses tag at senses past) ≡ steps ++ sense_steps tag at senses past
+  senses_are_steps [] past steps are = are ∙ sym (append-nil steps)
+  senses_are_steps (sensed ∷ more) past steps are =
+      let kind : Kind = Kind.Sense at sensed.0 sensed.1 in
+      let step : CallStep = record { past = past; entry = entry_of tag kind } in
+      senses_are_steps more (entry_of tag kind ∷ past) (steps ++ step ∷ [])
+      (one_step_more tag kind past steps are)
+      ∙ append_assoc steps (step ∷ []) (sense_steps tag at more (entry_of tag kind ∷ past))
+
+  -- each step is a sense, none is a failed call, and none makes a look
+  pub all_senses : (senses : List (Place × ℤ)) (past : List Entry) →
+      list_all (λ step. is_sense_of at step.entry.kind) (sense_steps tag at senses past) ≡ true
+  all_senses [] past = refl
+  all_senses (sensed ∷ more) past =
+      rw (same_byte at) (all_senses more (entry_of tag (Kind.Sense at sensed.0 sensed.1) ∷ past))
+
+  pub no_fault_with : (senses : List (Place × ℤ)) (past : List Entry) (steps : List CallStep) →
+      faults_in (sense_steps tag at senses past ++ steps) ≡ faults_in steps
+  no_fault_with [] past steps = refl
+  no_fault_with (sensed ∷ more) past steps =
+      no_fault_with more (entry_of tag (Kind.Sense at sensed.0 sensed.1) ∷ past) steps
+
+  pub no_look_with : (P : CallStep → Look → Type 0) (senses : List (Place × ℤ)) (past : List Entry)
+      (steps : List CallStep) →
+      All (λ step. ForSome (look_made (position_of step) step.entry.kind) (P step)) steps → All
+      (λ step. ForSome (look_made (position_of step) step.entry.kind) (P step))
+      (sense_steps tag at senses past ++ steps)
+  no_look_with P [] past steps all = all
+  no_look_with P (sensed ∷ more) past steps all =
+      let kind : Kind = Kind.Sense at sensed.0 sensed.1 in
+      let step : CallStep = record { past = past; entry = entry_of tag kind } in
+      All-cons (λ step. ForSome (look_made (position_of step) step.entry.kind) (P step)) step
+      (sense_steps tag at more (entry_of tag kind ∷ past) ++ steps)
+      (λ look is. absurd (cc)) (no_look_with P more (entry_of tag kind ∷ past) steps all)
+
+  -- the first step that decides a reply stands behind them
+  pub decided_behind : {R : Type 0} (decided : CallStep → Option R) (senses : List (Place × ℤ))
+      (past : List Entry) (steps : List CallStep) →
+      ((before : List Entry) (place : Place) (level : ℤ) → decided
+      (record { past = before; entry = entry_of tag (Kind.Sense at place level) }) ≡ None) →
+      first_reply decided (sense_steps tag at senses past ++ steps) ≡ first_reply decided steps
+  decided_behind decided [] past steps none = refl
+  decided_behind decided (sensed ∷ more) past steps none =
+      rw (none past sensed.0 sensed.1, first_reply)
+      (decided_behind decided more (entry_of tag (Kind.Sense at sensed.0 sensed.1) ∷ past) steps none)
+
+  -- they lead from a past to that after them
+  pub senses_lead : (senses : List (Place × ℤ)) (past : List Entry) (steps : List CallStep)
+      (after : List Entry) → AreStepsFrom tag (after_senses tag at senses past) steps after →
+      AreStepsFrom tag past (sense_steps tag at senses past ++ steps) after
+  senses_lead [] past steps after lead = lead
+  senses_lead (sensed ∷ more) past steps after lead = (
+    refl,
+    refl,
+    senses_lead more
+        (entry_of tag (Kind.Sense at sensed.0 sensed.1) ∷ past) steps after lead,
+  )
+
+  -- the looks stay as they are, and the past before lawful ones was lawful
+  pub looks_stay : (senses : List (Place × ℤ)) (past : List Entry) →
+      open_looks (after_senses tag at senses past) ≡ open_looks past
+  looks_stay [] past = refl
+  looks_stay (sensed ∷ more) past =
+      looks_stay more (entry_of tag (Kind.Sense at sensed.0 sensed.1) ∷ past)
+
+  pub lawful_before : (ladder : List Entry → ℕ → LadderState) (base : ChannelBase)
+      (senses : List (Place × ℤ)) (past : List Entry) →
+      IsLawfulBy ladder base (after_senses tag at senses past) → IsLawfulBy ladder base past
+  lawful_before ladder base [] past lawful = lawful
+  lawful_before ladder base (sensed ∷ more) past lawful =
+      (lawful_before ladder base more (entry_of tag (Kind.Sense at sensed.0 sensed.1) ∷ past) lawful).0
