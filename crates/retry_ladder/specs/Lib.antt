@@ -1,0 +1,5 @@
+pub mod Decoder
+pub mod Ready
+pub mod Running
+pub mod View
+pub mod Work
