@@ -29,14 +29,14 @@ use Rattle.ssd_geo.proofs.UsedSlots.{block_is}
 use Rattle.chan_state.specs.TablesState.{is_closed_row}
 
 -- both tests hold
-both : (a b : Bool) → a ≡ true → b ≡ true → (a && b) ≡ true
+pub both : (a b : Bool) → a ≡ true → b ≡ true → (a && b) ≡ true
 both true b p q = q
 both false b p q = p
 
-below_is : (a b : ℕ) → a < b → nat_lt a b ≡ true
+pub below_is : (a b : ℕ) → a < b → nat_lt a b ≡ true
 below_is a b h = grind (arith, nat_tests)
 
-some_and : {A : Type 0} (P : A → Type 0) (o : Option A) → IsSome o → ((x : A) → P x) → IsSomeAnd o P
+pub some_and : {A : Type 0} (P : A → Type 0) (o : Option A) → IsSome o → ((x : A) → P x) → IsSomeAnd o P
 some_and P None some h = cc
 some_and P (Some x) some h = h x
 
@@ -48,6 +48,13 @@ open_of_call tag (Some found) some = refl
 pub lawful_trim : (state : ℕ → LadderState) (base : ChannelBase) (past : List Entry) (tag : Tag) (row : ℕ) → row < base.shape.rows
     → IsLawfulEntry state base past (entry_of tag (Kind.Trim row))
 lawful_trim state base past tag row lt = record { in_range = below_is row base.shape.rows lt; meets = tt }
+
+pub lawful_age : (state : ℕ → LadderState) (base : ChannelBase) (past : List Entry) (tag : Tag) (die sb amount : ℕ) → die < base.shape.dies → sb < base.shape.superblocks
+    → IsLawfulEntry state base past (entry_of tag (Kind.Age die sb amount))
+lawful_age state base past tag die sb amount low within = record {
+  in_range = both (nat_lt die base.shape.dies) (nat_lt sb base.shape.superblocks) (below_is die base.shape.dies low) (below_is sb base.shape.superblocks within);
+  meets = tt;
+}
 
 pub lawful_leave : (state : ℕ → LadderState) (base : ChannelBase) (past : List Entry) (tag : Tag) (at : ℕ) → IsSome (open_look past tag at) → IsTrue (has_answer (state at))
     → IsLawfulEntry state base past (entry_of tag (Kind.Leave at))
@@ -94,7 +101,7 @@ lawful_look state base past tag row found lt is range = record {
 }
 
 -- no die is weak where no block is listed
-none_weak_listed : (base : ChannelBase) (past : List Entry) (sb : ℕ) (dies : List ℕ) → base.weak ≡ [] → IsTrue (is_none_weak base past sb dies)
+pub none_weak_listed : (base : ChannelBase) (past : List Entry) (sb : ℕ) (dies : List ℕ) → base.weak ≡ [] → IsTrue (is_none_weak base past sb dies)
 none_weak_listed base past sb dies none = ap {B = Bool} (λ (b : Bool). not b) (none_of dies)
   where
     no_die : (die : ℕ) → is_weak base past sb die ≡ false

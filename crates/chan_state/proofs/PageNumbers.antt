@@ -1,6 +1,6 @@
--- The number of a page among those of its channel: it is below their count, and two pages have two numbers. A slot's page and
+-- The number of a page among those of its channel: it is below their count, two pages have two numbers, and it tells the block. A slot's page and
 -- its stripe's parity are two pages of the channel.
-use Rattle.std.proofs.Common.{◌≡◌, ◌≢◌, ℕ, ◌+◌, ◌*◌, ◌/◌, ◌%◌, ◌^◌, ◌<◌, ◌≤◌, ap, sym, ◌∙◌, arith, IsTrue}
+use Rattle.std.proofs.Common.{◌≡◌, ◌≢◌, ℕ, ◌+◌, ◌-◌, ◌*◌, ◌/◌, ◌%◌, ◌^◌, ◌<◌, ◌≤◌, ◌==◌, ◌&&◌, Bool, true, false, refl, ap, sym, ◌∙◌, arith, IsTrue}
 use Rattle.std.proofs.Math.Nat.{mul-le-mul_left}
 use Rattle.std.proofs.lemmas.Bool.Decides.{nat_tests}
 use Rattle.std.proofs.lemmas.Nat.{div-mul-add, mod-mul-add, mul-add-lt}
@@ -12,6 +12,7 @@ use Rattle.ssd_geo.specs.declared.place.Place.{Place}
 use Rattle.ssd_geo.specs.declared.shape.Shape.{Shape}
 use Rattle.ssd_geo.specs.declared.slot.Slot.{Slot}
 use Rattle.ssd_geo.proofs.Stripes.{parity_die-lt, slots_have_places}
+use Rattle.chan_state.specs.CellsState.{is_in_block}
 use Rattle.chan_state.specs.ChannelState.{page_number}
 
 -- what the tests of ranges say
@@ -80,6 +81,17 @@ below_all dies blocks pages die sb page d b p =
     let block : die * blocks + sb < dies * blocks = omega (arith, mul-add-lt die blocks sb dies d b) in
     omega (arith, mul-add-lt (die * blocks + sb) pages page (dies * blocks) block p)
 
+-- where the numbers of a block's pages begin and end
+pub first_in_block : (shape : Shape) (die sb : ℕ) → page_number shape (record { die = die; sb = sb; page = 0 }) ≡ (die * shape.superblocks + sb) * shape.pages
+first_in_block shape die sb =
+    omega (arith, within_channel shape.dies shape.superblocks shape.pages die sb 0)
+
+pub block_end : (shape : Shape) (die sb : ℕ) → die < shape.dies → sb < shape.superblocks
+    → (die * shape.superblocks + sb) * shape.pages + shape.pages ≤ shape.dies * shape.superblocks * shape.pages
+block_end shape die sb low within =
+    let some : 0 < shape.pages = omega (arith, shape.within.pages_low) in
+    omega (arith, below_all shape.dies shape.superblocks shape.pages die sb (shape.pages - 1) low within (omega arith))
+
 pub page_number-lt : (shape : Shape) (place : Place) → IsTrue (has_place shape place) → page_number shape place < shape.dies * shape.superblocks * shape.pages
 page_number-lt shape place h =
     let range : IsPlace shape.dies shape.superblocks shape.pages place = place_in_range shape place h in
@@ -109,3 +121,40 @@ same_number shape a b first second e =
     let dies : a.die ≡ b.die = same_quotient a.die b.die a.sb b.sb shape.superblocks one.superblock two.superblock blocks in
     let superblocks : a.sb ≡ b.sb = same_rest a.die b.die a.sb b.sb shape.superblocks one.superblock two.superblock blocks in
     λ i. record { die = dies i; sb = superblocks i; page = pages i }
+
+-- two pairs are one where their numbers are
+same_pair : (a b r s w : ℕ) → r < w → s < w → (a * w + r == b * w + s) ≡ (a == b && r == s)
+same_pair a b r s w h g = by_tests (a * w + r == b * w + s) (a == b && r == s) refl refl
+  where
+    equal : (m n : ℕ) → (m == n) ≡ true → m ≡ n
+    equal m n e = grind (arith, nat_tests)
+
+    unequal : (m n : ℕ) → (m == n) ≡ false → m ≢ n
+    unequal m n e = grind (arith, nat_tests)
+
+    parts : (a == b && r == s) ≡ true → (a ≡ b) × (r ≡ s)
+    parts e = (grind (arith, nat_tests), grind (arith, nat_tests))
+
+    not_parts : (a == b && r == s) ≡ false → a ≡ b → r ≡ s → ⊥
+    not_parts e f k = grind (arith, nat_tests)
+
+    by_tests : (p q : Bool) → (a * w + r == b * w + s) ≡ p → (a == b && r == s) ≡ q → (a * w + r == b * w + s) ≡ (a == b && r == s)
+    by_tests true true e f = e ∙ sym f
+    by_tests false false e f = e ∙ sym f
+    by_tests true false e f =
+        let same : a * w + r ≡ b * w + s = equal (a * w + r) (b * w + s) e in
+        absurd (not_parts f (same_quotient a b r s w h g same) (same_rest a b r s w h g same))
+    by_tests false true e f =
+        let both : (a ≡ b) × (r ≡ s) = parts f in
+        absurd (unequal (a * w + r) (b * w + s) e (λ i. both.0 i * w + both.1 i))
+
+-- the number of a page is one of a block's exactly where its place is in the block
+pub number_in_block : (shape : Shape) (place : Place) (die sb : ℕ) → IsTrue (has_place shape place) → sb < shape.superblocks
+    → is_in_block shape die sb (page_number shape place) ≡ (place.die == die && place.sb == sb)
+number_in_block shape place die sb range low =
+    let within : IsPlace shape.dies shape.superblocks shape.pages place = place_in_range shape place range in
+    let block : page_number shape place / shape.pages ≡ place.die * shape.superblocks + place.sb =
+    ap {B = ℕ} (λ (n : ℕ). n / shape.pages) (within_channel shape.dies shape.superblocks shape.pages place.die place.sb place.page)
+    ∙ div-mul-add (place.die * shape.superblocks + place.sb) shape.pages place.page within.page in
+    ap {B = Bool} (λ (n : ℕ). n == die * shape.superblocks + sb) block
+    ∙ same_pair place.die die place.sb sb shape.superblocks within.superblock low

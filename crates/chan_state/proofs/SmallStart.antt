@@ -1,45 +1,28 @@
--- The blank channel of the small drive may begin, and what steps leave of a channel on which steps are tried.
-use Rattle.std.proofs.Common.{◌≡◌, ℕ, ◌*◌, ◌<◌, ◌≤◌, ◌^◌, ◌==◌, ◌||◌, cond, Bool, false, List, [], ◌∷◌, length, get_or, replicate, refl, sym, ◌∙◌, ap, subst, lit<, lit≤, arith, All, inl, inr, Result, Ok, Err, Option}
-use Rattle.std.specs.Prelude.{IsTrue, IfOk, OnOk, OnErr, is_some, ℤ, ⊤}
+-- The blank channel of the small drive may begin.
+use Rattle.std.proofs.Common.{◌≡◌, ℕ, ◌*◌, ◌<◌, ◌≤◌, ◌^◌, Bool, false, List, [], ◌∷◌, length, get_or, replicate, refl, sym, ◌∙◌, ap, subst, lit<, lit≤, arith, All, inl, inr}
+use Rattle.std.specs.Prelude.{IsTrue, ℤ}
 use Rattle.std.proofs.lemmas.Bool.{cases_lt}
-use Rattle.std.proofs.lemmas.Bool.Decides.{nat_tests}
 use Rattle.std.proofs.lemmas.List.{get_or-replicate, get_or_past, length-replicate}
 use Rattle.std.proofs.lemmas.List.Elements.{All-nil, All-replicate}
-use Rattle.std.proofs.lemmas.List.Sums.{sum_by-cons}
 use Rattle.ssd_geo.specs.Bits.{bit_sum}
 use Rattle.ssd_geo.specs.BaseMatrix.{IsAccepted, layer_of}
 use Rattle.ssd_geo.specs.Blocks.{blank_block, block_at}
-use Rattle.ssd_geo.specs.CallSteps.{is_sense_of}
 use Rattle.ssd_geo.specs.Coding.{matrix_of}
 use Rattle.ssd_geo.specs.Codewords.{is_odd_sum}
 use Rattle.ssd_geo.specs.Layer.{variables_of}
-use Rattle.ssd_geo.specs.Lawful.{has_fault_sense, is_fault_sense_of}
 use Rattle.ssd_geo.specs.Limits.{IsWithinLimits}
 use Rattle.ssd_geo.specs.PageMap.{names_slot, names_within, row_at}
-use Rattle.ssd_geo.specs.SerialCalls.{entry_of}
 use Rattle.ssd_geo.specs.Shape.{HasSizes}
 use Rattle.ssd_geo.specs.Standing.{HasFields, IsDueBlock, IsStart, names_used}
 use Rattle.ssd_geo.specs.Start.{BlockCells, Start, blank_cells, cells_at}
 use Rattle.ssd_geo.specs.Superblock.{due_pages}
 use Rattle.ssd_geo.specs.declared.base.BlockBase.{BlockBase}
-use Rattle.ssd_geo.specs.declared.entry.Entry.{Entry}
-use Rattle.ssd_geo.specs.declared.kind.Kind.{Kind}
 use Rattle.ssd_geo.specs.declared.row.Row.{Row}
 use Rattle.ssd_geo.specs.declared.shape.Shape.{Shape}
 use Rattle.ssd_geo.specs.declared.slot.Slot.{Slot}
-use Rattle.ssd_geo.specs.declared.look.Look.{Look}
-use Rattle.ssd_geo.specs.declared.place.Place.{Place}
-use Rattle.ssd_geo.specs.declared.stop.StepStop.{StepStop}
-use Rattle.ssd_geo.specs.declared.tag.Tag.{Tag}
-use Rattle.chan_state.specs.declared.answers.LookAnswer.{LookAnswer}
-use Rattle.chan_state.specs.declared.answers.LookAnswer.TheVariants.{Empty, Lost, Found}
-use Rattle.chan_state.specs.declared.answers.WriteAnswer.{WriteAnswer}
-use Rattle.chan_state.specs.declared.answers.WriteAnswer.TheVariants.{Written, NeedRoom}
 use Rattle.ssd_geo.proofs.Stripes.{due_pages_ends}
-use Rattle.chan_state.specs.ChannelState.{ChannelState, HasBegun, IsBlankStart, blank_start}
-use Rattle.chan_state.specs.SmallChannel.{IsTried, small_base}
-use Rattle.chan_state.specs.Steps.{AddsEntry, LooksAt, MaySense, Writes}
-use Rattle.chan_state.specs.TablesState.{senses_had}
+use Rattle.chan_state.specs.ChannelState.{IsBlankStart, blank_start}
+use Rattle.chan_state.specs.SmallChannel.{small_base}
 use Rattle.chan_state.proofs.FilledRows.{all_empty}
 
 -- an item of a list of equal ones
@@ -156,97 +139,3 @@ small_may_begin shape limit sizes low high =
     λ i. (sym sizes.channels_are i, sym sizes.dies_are i, sym sizes.superblocks_are i, sym sizes.pages_are i, sym sizes.lifting_is i, sym sizes.base_rows_are i, sym sizes.base_columns_are i, sym sizes.bytes_are i, sym sizes.rows_are i) in
     let concrete : BeginsWith limit numbers = λ within. record { is_start = small_is_start within limit low high; none_weak = refl } in
     subst (BeginsWith limit) same concrete shape.within
-
--- an entry that is no failed sense, and no sense of a look that is to come
-abbrev pub IsTame : ℕ → Kind → Type 0
-IsTame now (Kind.Sense at place level) = at < now
-IsTame now (Kind.FaultSense at place level) = ⊥
-IsTame now _ = ⊤
-
-other : (a b : ℕ) → a < b → (a == b) ≡ false
-other a b h = grind (arith, nat_tests)
-
-not_ahead : (now at : ℕ) (kind : Kind) → now ≤ at → IsTame now kind → is_sense_of at kind ≡ false
-not_ahead now at (Kind.Sense named place level) le tame = other named at (omega arith)
-not_ahead now at kind le tame = refl
-
-no_fault : (now at : ℕ) (kind : Kind) → IsTame now kind → is_fault_sense_of at kind ≡ false
-no_fault now at (Kind.FaultSense named place level) tame = absurd tame
-no_fault now at kind tame = refl
-
-none_more : (past : List Entry) (entry : Entry) (at : ℕ) → is_sense_of at entry.kind ≡ false → senses_had past at ≡ 0 → senses_had (entry ∷ past) at ≡ 0
-none_more past entry at no_sense none =
-    let zero_here : ◌≡◌ {A = ℕ} (cond (is_sense_of at entry.kind) 1 0) 0 = ap {B = ℕ} (λ (b : Bool). cond b 1 0) no_sense in
-    omega (arith, zero_here, none, sum_by-cons (λ (e : Entry). cond (is_sense_of at e.kind) 1 0) entry past)
-
--- a step's entry leaves a channel on which steps are tried
-pub tried_after : (old new : ChannelState) (tag : Tag) (kind : Kind) → IsTame (length old.past) kind → AddsEntry old new tag kind → IsTried old → IsTried new
-tried_after old new tag kind tame adds tried = record {
-  rows = ap {B = ℕ} (λ (s : Shape). s.rows) adds.same_drive.shape_stays ∙ tried.rows;
-  dies = ap {B = ℕ} (λ (s : Shape). s.dies) adds.same_drive.shape_stays ∙ tried.dies;
-  superblocks = ap {B = ℕ} (λ (s : Shape). s.superblocks) adds.same_drive.shape_stays ∙ tried.superblocks;
-  pages = ap {B = ℕ} (λ (s : Shape). s.pages) adds.same_drive.shape_stays ∙ tried.pages;
-  columns = ap {B = ℕ} (λ (s : Shape). s.nb) adds.same_drive.shape_stays ∙ tried.columns;
-  lifting = ap {B = ℕ} (λ (s : Shape). s.z) adds.same_drive.shape_stays ∙ tried.lifting;
-  none_ahead = λ at le.
-      let longer : length (entry_of tag kind ∷ old.past) ≤ at = subst (λ (past : List Entry). length past ≤ at) adds.past_is le in
-      ap {B = ℕ} (λ (past : List Entry). senses_had past at) adds.past_is
-      ∙ none_more old.past (entry_of tag kind) at (not_ahead (length old.past) at kind (omega arith) tame) (tried.none_ahead at (omega arith));
-  faultless = λ at.
-      ap {B = Bool} (λ (past : List Entry). has_fault_sense past at) adds.past_is
-      ∙ ap {B = Bool} (λ (b : Bool). b || has_fault_sense old.past at) (no_fault (length old.past) at kind tame)
-      ∙ tried.faultless at;
-}
-
--- a channel that has begun, of the small sizes, is one
-pub tried_first : (shape : Shape) (limit : ℕ) (channel : ChannelState) → HasSizes shape 1 3 4 2 64 3 6 8 8 → HasBegun (small_base shape) limit channel → IsTried channel
-tried_first shape limit channel sizes begun = record {
-  rows = ap {B = ℕ} (λ (s : Shape). s.rows) begun.shape_is ∙ sizes.rows_are;
-  dies = ap {B = ℕ} (λ (s : Shape). s.dies) begun.shape_is ∙ sizes.dies_are;
-  superblocks = ap {B = ℕ} (λ (s : Shape). s.superblocks) begun.shape_is ∙ sizes.superblocks_are;
-  pages = ap {B = ℕ} (λ (s : Shape). s.pages) begun.shape_is ∙ sizes.pages_are;
-  columns = ap {B = ℕ} (λ (s : Shape). s.nb) begun.shape_is ∙ sizes.base_columns_are;
-  lifting = ap {B = ℕ} (λ (s : Shape). s.z) begun.shape_is ∙ sizes.lifting_is;
-  none_ahead = λ at le. ap {B = ℕ} (λ (past : List Entry). senses_had past at) begun.no_entry;
-  faultless = λ at. ap {B = Bool} (λ (past : List Entry). has_fault_sense past at) begun.no_entry;
-}
-
--- steps leave a channel on which steps are tried
-pub tried_written : (old new : ChannelState) (tag : Tag) (row : ℕ) (result : Result WriteAnswer StepStop) → IfOk result (λ answer. Writes old new tag row answer) → OnErr result (new ≡ old) → IsTried old → IsTried new
-tried_written old new tag row (Ok (Written slot)) ok err tried = tried_after old new tag (Kind.Write row slot) tt ok.2 tried
-tried_written old new tag row (Ok NeedRoom) ok err tried = subst IsTried (sym ok.1) tried
-tried_written old new tag row (Err stop) ok err tried = subst IsTried (sym err) tried
-
-pub tried_trimmed : (old new : ChannelState) (tag : Tag) (row : ℕ) (result : Result (Unit {0}) StepStop) → OnOk result (AddsEntry old new tag (Kind.Trim row)) → OnErr result (new ≡ old) → IsTried old → IsTried new
-tried_trimmed old new tag row (Ok done) ok err tried = tried_after old new tag (Kind.Trim row) tt ok tried
-tried_trimmed old new tag row (Err stop) ok err tried = subst IsTried (sym err) tried
-
-pub tried_looked : (old new : ChannelState) (tag : Tag) (row : ℕ) (answer : LookAnswer) → LooksAt old new tag row answer → IsTried old → IsTried new
-tried_looked old new tag row Empty looks tried = tried_after old new tag (Kind.Look row Row.Empty false) tt looks.1 tried
-tried_looked old new tag row Lost looks tried = tried_after old new tag (Kind.Look row Row.Lost false) tt looks.1 tried
-tried_looked old new tag row (Found look) looks tried = tried_after old new tag (Kind.Look row (Row.Page look.slot look.serial) look.closed) tt looks.3 tried
-
-pub tried_sensed : (old new : ChannelState) (tag : Tag) (at : ℕ) (place : Place) (level : ℤ) → at < length old.past → AddsEntry old new tag (Kind.Sense at place level) → IsTried old → IsTried new
-tried_sensed old new tag at place level before adds tried = tried_after old new tag (Kind.Sense at place level) before adds tried
-
-pub tried_left : (old new : ChannelState) (tag : Tag) (at : ℕ) → AddsEntry old new tag (Kind.Leave at) → IsTried old → IsTried new
-tried_left old new tag at adds tried = tried_after old new tag (Kind.Leave at) tt adds tried
-
--- a look that was just made stands before the history's end, and may be sensed for
-pub look_is_past : (old new : ChannelState) (tag : Tag) (row : ℕ) (look : Look) → LooksAt old new tag row (Found look) → look.at < length new.past
-look_is_past old new tag row look looks =
-    let longer : length new.past ≡ length (entry_of tag (Kind.Look row (Row.Page look.slot look.serial) look.closed) ∷ old.past) =
-    ap {B = ℕ} (λ (past : List Entry). length past) looks.3.past_is in
-    omega (arith, longer, looks.1)
-
-pub first_sense : (old new : ChannelState) (tag : Tag) (row : ℕ) (look : Look) → LooksAt old new tag row (Found look) → IsTried old → MaySense new tag look.at
-first_sense old new tag row look looks tried =
-    let entry : Entry = entry_of tag (Kind.Look row (Row.Page look.slot look.serial) look.closed) in
-    let none : senses_had new.past look.at ≡ 0 =
-    ap {B = ℕ} (λ (past : List Entry). senses_had past look.at) looks.3.past_is
-    ∙ none_more old.past entry look.at refl (tried.none_ahead look.at (omega (arith, looks.1))) in
-    record {
-      is_open = ap {B = Bool} (λ (o : Option Look). is_some o) looks.4;
-      few = omega (arith, none);
-      no_fault = (tried_looked old new tag row (Found look) looks tried).faultless look.at;
-    }

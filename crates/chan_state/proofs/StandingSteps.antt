@@ -30,13 +30,15 @@ use Rattle.ssd_geo.specs.declared.slot.Slot.{Slot}
 use Rattle.ssd_geo.specs.declared.stop.StepStop.{StepStop}
 use Rattle.ssd_geo.specs.declared.tag.Tag.{Tag}
 use Rattle.chan_state.specs.declared.answers.LookAnswer.{LookAnswer}
-use Rattle.chan_state.specs.CellsState.{CellsFit, CellsState, cells_after_program}
+use Rattle.chan_state.specs.CellsState.{CellsFit, CellsState, cells_after_age, cells_after_program}
 use Rattle.chan_state.specs.ChannelState.{ChannelState, KeepsStanding, StandsFor, page_levels}
 use Rattle.chan_state.specs.Steps.{AddsEntry, IsOpen, LooksAt, LeavesFor, MaySense, SensesFor, WritesFor, cells_in, channel_of, tables_in}
 use Rattle.chan_state.specs.TablesState.{LooksIn, TablesState, WritesIn, answer_of_look, is_closed_row, kind_of_look, tables_after}
-use Rattle.chan_state.proofs.CellsAfter.{still_fits, write_fits}
+use Rattle.chan_state.proofs.AgedCells.{age_fits}
+use Rattle.chan_state.proofs.CellsAfter.{still_fits}
 use Rattle.chan_state.proofs.EarlierLooks.{found_new}
-use Rattle.chan_state.proofs.LawfulSteps.{lawful_leave, lawful_look, lawful_sense, lawful_trim, lawful_write, row_is}
+use Rattle.chan_state.proofs.LawfulSteps.{lawful_age, lawful_leave, lawful_look, lawful_sense, lawful_trim, lawful_write, row_is}
+use Rattle.chan_state.proofs.ProgrammedCells.{write_fits}
 use Rattle.chan_state.proofs.Standing.{cells_of_standing, stands_after}
 use Rattle.chan_state.proofs.UsedRows.{next_erases}
 
@@ -75,6 +77,27 @@ trim_stands channel tag row lt start contents stands =
     (lawful_trim (ladder_at start contents channel.past) start.base channel.past tag row (subst (λ (shape : Shape). row < shape.rows) stands.shape_is lt))
     (still_fits start contents channel.past tag (Kind.Trim row) (cells_in channel) tt (cells_of_standing channel start contents stands))
 
+-- a channel after an ageing of a block
+abbrev pub channel_aged : ChannelState → Tag → ℕ → ℕ → ℕ → ChannelState
+channel_aged channel tag die sb amount =
+    channel_of channel.channel channel.law (tables_after (tables_in channel) tag (Kind.Age die sb amount))
+    (cells_after_age channel.shape channel.law die sb amount (cells_in channel))
+
+pub age_stands : (channel : ChannelState) (tag : Tag) (die sb amount : ℕ) → die < channel.shape.dies → sb < channel.shape.superblocks
+    → length channel.pages ≡ channel.shape.dies * channel.shape.superblocks * channel.shape.pages
+    → KeepsStanding channel (channel_aged channel tag die sb amount)
+age_stands channel tag die sb amount low within pages start contents stands =
+    let die_low : die < start.base.shape.dies = subst (λ (shape : Shape). die < shape.dies) stands.shape_is low in
+    let sb_low : sb < start.base.shape.superblocks = subst (λ (shape : Shape). sb < shape.superblocks) stands.shape_is within in
+    let count : length channel.pages ≡ start.base.shape.dies * start.base.shape.superblocks * start.base.shape.pages =
+    subst (λ (shape : Shape). length channel.pages ≡ shape.dies * shape.superblocks * shape.pages) stands.shape_is pages in
+    let same : cells_after_age start.base.shape start.base.law die sb amount (cells_in channel) ≡ cells_after_age channel.shape channel.law die sb amount (cells_in channel) =
+    λ i. cells_after_age (sym stands.shape_is i) (sym stands.law_is i) die sb amount (cells_in channel) in
+    stands_after channel tag (Kind.Age die sb amount) (cells_after_age channel.shape channel.law die sb amount (cells_in channel)) start contents stands tt
+    (lawful_age (ladder_at start contents channel.past) start.base channel.past tag die sb amount die_low sb_low)
+    (subst (CellsFit start contents (entry_of tag (Kind.Age die sb amount) ∷ channel.past)) same
+    (age_fits start contents channel.past tag die sb amount (cells_in channel) sb_low count (cells_of_standing channel start contents stands)))
+
 pub look_stands : (channel : ChannelState) (tag : Tag) (row : ℕ) → row < channel.shape.rows → IsTrue (has_row channel.shape (row_at channel.rows row))
     → KeepsStanding channel (channel_after channel tag (kind_of_look (tables_in channel) row))
 look_stands channel tag row lt within start contents stands =
@@ -91,7 +114,7 @@ look_stands channel tag row lt within start contents stands =
     (still_fits start contents channel.past tag (kind_of_look (tables_in channel) row) (cells_in channel) tt (cells_of_standing channel start contents stands))
 
 -- how often the superblock of a slot was erased
-erases_are : (base : ChannelBase) (past : List Entry) (slot : Slot) → IsTrue (has_slot base.shape slot) → (block_at (blocks_of base past) slot.sb).erases ≡ erases_of base past slot.sb
+pub erases_are : (base : ChannelBase) (past : List Entry) (slot : Slot) → IsTrue (has_slot base.shape slot) → (block_at (blocks_of base past) slot.sb).erases ≡ erases_of base past slot.sb
 erases_are base past slot range =
     let within : slot.sb < base.shape.superblocks = grind (arith, nat_tests) in
     ap {B = ℕ} (λ (block : BlockBase). block.erases) (block_is base past slot.sb within)
@@ -145,30 +168,31 @@ adds_after channel tag kind = record {
 }
 
 -- what the tables tell of a look is what the channel tells
-looks_by : (channel : ChannelState) (tag : Tag) (row : ℕ) (found : Row) → row_at channel.rows row ≡ found → look_at channel.looks (length channel.past) ≡ None
+looks_by : (channel : ChannelState) (tag : Tag) (row : ℕ) (found : Row) → row_at channel.rows row ≡ found → look_at channel.looks (length channel.past) ≡ None → IsTrue (has_row channel.shape found)
     → LooksAt channel (channel_after channel tag (Kind.Look row found (is_closed_row channel.shape channel.blocks found))) tag row
     (answer_of_look (length channel.past) row (is_closed_row channel.shape channel.blocks found) found)
-looks_by channel tag row Row.Empty is none = (is, adds_after channel tag (Kind.Look row Row.Empty false))
-looks_by channel tag row Row.Lost is none = (is, adds_after channel tag (Kind.Look row Row.Lost false))
-looks_by channel tag row (Row.Page slot serial) is none =
+looks_by channel tag row Row.Empty is none within = (is, adds_after channel tag (Kind.Look row Row.Empty false))
+looks_by channel tag row Row.Lost is none within = (is, adds_after channel tag (Kind.Look row Row.Lost false))
+looks_by channel tag row (Row.Page slot serial) is none within =
     let closed : Bool = is_closed_row channel.shape channel.blocks (Row.Page slot serial) in
     let look : Look = record { at = length channel.past; row = row; slot = slot; serial = serial; closed = closed } in
-    (is, refl, refl, adds_after channel tag (Kind.Look row (Row.Page slot serial) closed), found_new channel.looks tag look none, refl)
+    (is, refl, refl, adds_after channel tag (Kind.Look row (Row.Page slot serial) closed), found_new channel.looks tag look none, refl, within)
 
 pub looks_in_channel : (channel : ChannelState) (tables : TablesState) (tag : Tag) (row : ℕ) (answer : LookAnswer) → LooksIn (tables_in channel) tables tag row answer
-    → look_at channel.looks (length channel.past) ≡ None → LooksAt channel (with_tables channel tables) tag row answer
-looks_in_channel channel tables tag row answer looks none =
+    → look_at channel.looks (length channel.past) ≡ None → IsTrue (has_row channel.shape (row_at channel.rows row)) → LooksAt channel (with_tables channel tables) tag row answer
+looks_in_channel channel tables tag row answer looks none within =
     let found : Row = row_at channel.rows row in
     let there : LooksAt channel (channel_after channel tag (kind_of_look (tables_in channel) row)) tag row (answer_of_look (length channel.past) row (is_closed_row channel.shape channel.blocks found) found) =
-    looks_by channel tag row found refl none in
+    looks_by channel tag row found refl none within in
     subst (λ (a : LookAnswer). LooksAt channel (with_tables channel tables) tag row a) (sym looks.answer_is)
     (subst (λ (t : TablesState). LooksAt channel (with_tables channel t) tag row (answer_of_look (length channel.past) row (is_closed_row channel.shape channel.blocks found) found)) (sym looks.new_is) there)
 
 -- after a look of the tables the channel answers what they do, and stands for what it did
 pub looks_answer : (channel : ChannelState) (tables : TablesState) (tag : Tag) (row : ℕ) (result : Result LookAnswer StepStop) → IfOk result (λ answer. LooksIn (tables_in channel) tables tag row answer)
-    → OnOk result (look_at channel.looks (length channel.past) ≡ None) → IfOk result (λ answer. LooksAt channel (with_tables channel tables) tag row answer)
-looks_answer channel tables tag row (Ok answer) looks none = looks_in_channel channel tables tag row answer looks none
-looks_answer channel tables tag row (Err stop) looks none = tt
+    → OnOk result (look_at channel.looks (length channel.past) ≡ None) → OnOk result (IsTrue (has_row channel.shape (row_at channel.rows row)))
+    → IfOk result (λ answer. LooksAt channel (with_tables channel tables) tag row answer)
+looks_answer channel tables tag row (Ok answer) looks none within = looks_in_channel channel tables tag row answer looks none within
+looks_answer channel tables tag row (Err stop) looks none within = tt
 
 pub looks_keep : (channel : ChannelState) (tables : TablesState) (tag : Tag) (row : ℕ) (result : Result LookAnswer StepStop) → row < channel.shape.rows
     → IfOk result (λ answer. LooksIn (tables_in channel) tables tag row answer) → OnOk result (IsTrue (has_row channel.shape (row_at channel.rows row)))

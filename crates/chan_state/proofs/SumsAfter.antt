@@ -11,11 +11,10 @@ use Rattle.ssd_geo.specs.Coding.{coding_of, word_bytes_in}
 use Rattle.ssd_geo.specs.Ladder.{LadderState}
 use Rattle.ssd_geo.specs.Lawful.{IsLawfulBy}
 use Rattle.ssd_geo.specs.PastBlocks.{blocks_of, is_bad, is_picked, slots_in, state_of, used_of}
-use Rattle.ssd_geo.specs.PastPages.{adds, clears, keeps, running_sum, sum_of, sum_of_open, sum_when}
-use Rattle.ssd_geo.specs.PastRows.{serial_of}
+use Rattle.ssd_geo.specs.PastPages.{adds, clears, keeps, is_in_stripe, running_sum, sum_of, sum_of_open, sum_when}
 use Rattle.ssd_geo.specs.Ranges.{has_slot}
 use Rattle.ssd_geo.specs.Room.{next_slot}
-use Rattle.ssd_geo.specs.Start.{Start, data_of}
+use Rattle.ssd_geo.specs.Start.{Start}
 use Rattle.ssd_geo.specs.States as States
 use Rattle.ssd_geo.specs.States.{is_frontier}
 use Rattle.ssd_geo.specs.Stripe.{is_last_of_stripe, stripe_of_index}
@@ -147,18 +146,46 @@ not_last_slot n w pages pos e = by_test (n + 1 == pages * w) refl
         absurd (zero_test ((n + 1) % w) (ap {B = ℕ} (λ (k : ℕ). k % w) (same (n + 1) (pages * w) f) ∙ mul-mod_left pages w) (open_is_not_whole n w pos e))
     by_test false f = f
 
--- the running sum after the next slot was written: its word is added, and with the last slot of a stripe a sum begins anew
-abbrev pub sum_after_word : Start → List (Tag × List ℕ) → List Entry → Tag → ℕ → Slot → Bool → List ℕ
-sum_after_word start contents past tag row slot last = elim last [
-  | true ↦ zero_word (word_bytes_in start.base.shape)
-  | false ↦ bytes_sum ((coding_of start.base).encoded (serial_of start.base.session tag) row (data_of contents tag)) (sum_at start contents past slot)
+-- the sum of a stripe after the next slot was programmed with a word, by a write or by a copy
+abbrev pub sum_with : Start → List (Tag × List ℕ) → List Entry → Slot → List ℕ → ℕ → ℕ → List ℕ
+sum_with start contents past slot word sb stripe = elim (sum_when (is_in_stripe start.base.shape.dies sb stripe slot) adds) [
+  | adds ↦ bytes_sum word (sum_of (coding_of start.base) start contents past sb stripe)
+  | clears ↦ zero_word (word_bytes_in start.base.shape)
+  | keeps ↦ sum_of (coding_of start.base) start contents past sb stripe
 ]
 
-pub sum_after : (start : Start) (contents : List (Tag × List ℕ)) (past : List Entry) (tag : Tag) (row : ℕ) (slot : Slot)
+-- that of a superblock's open stripe, by whether a stripe is open, and the running sum: a copy uses as many slots as a write
+abbrev pub in_with : Start → List (Tag × List ℕ) → List Entry → Slot → List ℕ → ℕ → ℕ → Bool → List ℕ
+in_with start contents past slot word sb stripe whole =
+    elim whole [ true ↦ zero_word (word_bytes_in start.base.shape) | false ↦ sum_with start contents past slot word sb stripe ]
+
+abbrev pub open_with : Start → List (Tag × List ℕ) → List Entry → Tag → ℕ → Slot → List ℕ → ℕ → List ℕ
+open_with start contents past tag row slot word sb =
+    let used = used_of start.base (made tag (Kind.Write row slot) ∷ past) sb in
+    in_with start contents past slot word sb (used / (start.base.shape.dies - 1)) (used % (start.base.shape.dies - 1) == 0)
+
+abbrev pub by_with : Start → List (Tag × List ℕ) → List Entry → Tag → ℕ → Slot → List ℕ → Option ℕ → List ℕ
+by_with start contents past tag row slot word o = elim o [
+  | Some sb ↦ open_with start contents past tag row slot word sb
+  | None ↦ zero_word (word_bytes_in start.base.shape)
+]
+
+abbrev pub running_with : Start → List (Tag × List ℕ) → List Entry → Tag → ℕ → Slot → List ℕ → List ℕ
+running_with start contents past tag row slot word =
+    by_with start contents past tag row slot word (Blocks.frontier_of (blocks_of start.base (made tag (Kind.Write row slot) ∷ past)))
+
+-- the running sum after the next slot was programmed: its word is added, and with the last slot of a stripe a sum begins anew
+abbrev pub sum_after_word : Start → List (Tag × List ℕ) → List Entry → Slot → List ℕ → Bool → List ℕ
+sum_after_word start contents past slot word last = elim last [
+  | true ↦ zero_word (word_bytes_in start.base.shape)
+  | false ↦ bytes_sum word (sum_at start contents past slot)
+]
+
+pub sum_after : (start : Start) (contents : List (Tag × List ℕ)) (past : List Entry) (tag : Tag) (row : ℕ) (slot : Slot) (word : List ℕ)
     → AtMostOne is_frontier start.base past → next_slot start.base past ≡ Some slot → has_slot start.base.shape slot ≡ true
-    → running_sum (coding_of start.base) start contents (made tag (Kind.Write row slot) ∷ past)
-    ≡ sum_after_word start contents past tag row slot (is_last_of_stripe start.base.shape.dies slot.index)
-sum_after start contents past tag row slot one next range =
+    → running_with start contents past tag row slot word
+    ≡ sum_after_word start contents past slot word (is_last_of_stripe start.base.shape.dies slot.index)
+sum_after start contents past tag row slot word one next range =
     by_last (is_last_of_stripe start.base.shape.dies slot.index) refl
   where
     w_pos : 0 < start.base.shape.dies - 1
@@ -174,16 +201,16 @@ sum_after start contents past tag row slot one next range =
     used = one_more_used start.base past tag row slot ∙ ap {B = ℕ} (λ (n : ℕ). n + 1) (sym index)
 
     begins_anew : is_last_of_stripe start.base.shape.dies slot.index ≡ true
-        → sum_of_open (coding_of start.base) start contents (made tag (Kind.Write row slot) ∷ past) slot.sb ≡ zero_word (word_bytes_in start.base.shape)
+        → open_with start contents past tag row slot word slot.sb ≡ zero_word (word_bytes_in start.base.shape)
     begins_anew e =
-        ap {B = List ℕ} (sum_in start contents (made tag (Kind.Write row slot) ∷ past) slot.sb (used_of start.base (made tag (Kind.Write row slot) ∷ past) slot.sb / (start.base.shape.dies - 1)))
+        ap {B = List ℕ} (in_with start contents past slot word slot.sb (used_of start.base (made tag (Kind.Write row slot) ∷ past) slot.sb / (start.base.shape.dies - 1)))
         (ap {B = Bool} (λ (n : ℕ). n % (start.base.shape.dies - 1) == 0) used ∙ last_is_whole slot.index (start.base.shape.dies - 1) w_pos e)
 
     by_frontier : (o : Option ℕ) → ((k : ℕ) → o ≡ Some k → k ≡ slot.sb) → is_last_of_stripe start.base.shape.dies slot.index ≡ true
-        → sum_by start contents (made tag (Kind.Write row slot) ∷ past) o ≡ zero_word (word_bytes_in start.base.shape)
+        → by_with start contents past tag row slot word o ≡ zero_word (word_bytes_in start.base.shape)
     by_frontier None found e = refl
     by_frontier (Some k) found e =
-        ap {B = List ℕ} (λ (n : ℕ). sum_of_open (coding_of start.base) start contents (made tag (Kind.Write row slot) ∷ past) n) (found k refl) ∙ begins_anew e
+        ap {B = List ℕ} (λ (n : ℕ). open_with start contents past tag row slot word n) (found k refl) ∙ begins_anew e
 
     frontier : is_last_of_stripe start.base.shape.dies slot.index ≡ false → Blocks.frontier_of (blocks_of start.base (made tag (Kind.Write row slot) ∷ past)) ≡ Some slot.sb
     frontier e =
@@ -194,27 +221,27 @@ sum_after start contents past tag row slot one next range =
     both_same : (a b : ℕ) → (a == a && b == b) ≡ true
     both_same a b = grind (arith, nat_tests)
 
-    added : sum_of (coding_of start.base) start contents (made tag (Kind.Write row slot) ∷ past) slot.sb (slot.index / (start.base.shape.dies - 1))
-        ≡ bytes_sum ((coding_of start.base).encoded (serial_of start.base.session tag) row (data_of contents tag)) (sum_at start contents past slot)
+    added : sum_with start contents past slot word slot.sb (slot.index / (start.base.shape.dies - 1))
+        ≡ bytes_sum word (sum_at start contents past slot)
     added =
         ap {B = List ℕ} (λ (b : Bool). elim (sum_when b adds) [
-          | adds ↦ bytes_sum ((coding_of start.base).encoded (serial_of start.base.session tag) row (data_of contents tag)) (sum_at start contents past slot)
+          | adds ↦ bytes_sum word (sum_at start contents past slot)
           | clears ↦ zero_word (word_bytes_in start.base.shape)
           | keeps ↦ sum_at start contents past slot
         ]) (both_same slot.sb (slot.index / (start.base.shape.dies - 1)))
 
     goes_on : is_last_of_stripe start.base.shape.dies slot.index ≡ false
-        → sum_of_open (coding_of start.base) start contents (made tag (Kind.Write row slot) ∷ past) slot.sb
-        ≡ bytes_sum ((coding_of start.base).encoded (serial_of start.base.session tag) row (data_of contents tag)) (sum_at start contents past slot)
+        → open_with start contents past tag row slot word slot.sb
+        ≡ bytes_sum word (sum_at start contents past slot)
     goes_on e =
-        ap {B = List ℕ} (sum_in start contents (made tag (Kind.Write row slot) ∷ past) slot.sb (used_of start.base (made tag (Kind.Write row slot) ∷ past) slot.sb / (start.base.shape.dies - 1)))
+        ap {B = List ℕ} (in_with start contents past slot word slot.sb (used_of start.base (made tag (Kind.Write row slot) ∷ past) slot.sb / (start.base.shape.dies - 1)))
         (ap {B = Bool} (λ (n : ℕ). n % (start.base.shape.dies - 1) == 0) used ∙ open_is_not_whole slot.index (start.base.shape.dies - 1) w_pos e)
-        ∙ ap {B = List ℕ} (sum_of (coding_of start.base) start contents (made tag (Kind.Write row slot) ∷ past) slot.sb)
+        ∙ ap {B = List ℕ} (sum_with start contents past slot word slot.sb)
         (ap {B = ℕ} (λ (n : ℕ). n / (start.base.shape.dies - 1)) used ∙ open_goes_on slot.index (start.base.shape.dies - 1) w_pos e)
         ∙ added
 
     by_last : (last : Bool) → is_last_of_stripe start.base.shape.dies slot.index ≡ last
-        → running_sum (coding_of start.base) start contents (made tag (Kind.Write row slot) ∷ past) ≡ sum_after_word start contents past tag row slot last
+        → running_with start contents past tag row slot word ≡ sum_after_word start contents past slot word last
     by_last true e =
         by_frontier (Blocks.frontier_of (blocks_of start.base (made tag (Kind.Write row slot) ∷ past)))
         (λ k found.
@@ -223,4 +250,4 @@ sum_after start contents past tag row slot one next range =
         frontier_is_slots start.base past tag row slot k one next there.0 there.1)
         e
     by_last false e =
-        ap {B = List ℕ} (sum_by start contents (made tag (Kind.Write row slot) ∷ past)) (frontier e) ∙ goes_on e
+        ap {B = List ℕ} (by_with start contents past tag row slot word) (frontier e) ∙ goes_on e

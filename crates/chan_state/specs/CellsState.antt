@@ -1,8 +1,10 @@
--- What do the cells of a channel's dies hold, and what does the program of a slot leave in them? The cells of a channel are
--- its pages' levels and the running sum of its open stripe, of which the last slot of a stripe makes the parity.
-use Rattle.std.specs.Prelude.{ℕ, ◌≡◌, ◌*◌, ◌<◌, true, false, IsTrue, List, [], length, slice_index_or, slice_set, ℤ}
+-- What do the cells of a channel's dies hold, and what do the program of a slot and the ageing of a block leave in them? The
+-- cells of a channel are its pages' levels and the running sum of its open stripe, of which the last slot of a stripe makes
+-- the parity.
+use Rattle.std.specs.Prelude.{ℕ, ◌≡◌, ◌+◌, ◌*◌, ◌/◌, ◌%◌, ◌<◌, ◌==◌, Bool, true, false, IsTrue, List, [], length, map, replicate, slice_index_or, slice_set, ℤ}
+use Rattle.std.specs.List.{range_with_len}
 use Rattle.ssd_geo.specs.Bits.{bytes_sum}
-use Rattle.ssd_geo.specs.Cells.{fresh_levels}
+use Rattle.ssd_geo.specs.Cells.{aged_level, fresh_levels}
 use Rattle.ssd_geo.specs.Coding.{coding_of, word_bytes_in}
 use Rattle.ssd_geo.specs.Noise.{number_of_page}
 use Rattle.ssd_geo.specs.PastPages.{levels_of, running_sum}
@@ -52,6 +54,51 @@ cells_after_program shape law channel slot erases word cells =
       }
       | false ↦ record { pages = pages; sum = sum }
     ]
+
+-- whether a page with this number is one of a block's
+abbrev pub is_in_block : Shape → ℕ → ℕ → ℕ → Bool
+is_in_block shape die sb number = number / shape.pages == die * shape.superblocks + sb
+
+-- the page with this number after a block was aged by an amount: each level above the erased one falls by the amount in
+-- the pages of the block, but not below the erased one, and the other pages stay
+abbrev pub page_after_age : Shape → CellLaw → ℕ → ℕ → ℕ → List (List ℤ) → ℕ → List ℤ
+page_after_age shape law die sb amount pages number =
+    elim (is_in_block shape die sb number) [
+      | true ↦ map (aged_level law.erased amount) (slice_index_or pages number [])
+      | false ↦ slice_index_or pages number []
+    ]
+
+-- the pages after a block was aged by an amount
+abbrev pub pages_after_age : Shape → CellLaw → ℕ → ℕ → ℕ → List (List ℤ) → List (List ℤ)
+pages_after_age shape law die sb amount pages =
+    map (page_after_age shape law die sb amount pages) (range_with_len 0 (length pages))
+
+-- the cells after a block was aged by an amount: the running sum stays
+abbrev pub cells_after_age : Shape → CellLaw → ℕ → ℕ → ℕ → CellsState → CellsState
+cells_after_age shape law die sb amount cells =
+    record { pages = pages_after_age shape law die sb amount cells.pages; sum = cells.sum }
+
+-- whether a page with this number is one of a superblock's blocks
+abbrev pub is_in_superblock : Shape → ℕ → ℕ → Bool
+is_in_superblock shape sb number = number / shape.pages % shape.superblocks == sb
+
+-- the page with this number after a superblock was erased: it is empty in each block of the superblock, and else as it was
+abbrev pub page_after_erase : Shape → ℤ → ℕ → List (List ℤ) → ℕ → List ℤ
+page_after_erase shape erased sb pages number =
+    elim (is_in_superblock shape sb number) [
+      | true ↦ replicate (shape.nb * shape.z) erased
+      | false ↦ slice_index_or pages number []
+    ]
+
+-- the pages after that
+abbrev pub pages_after_erase : Shape → ℤ → ℕ → List (List ℤ) → List (List ℤ)
+pages_after_erase shape erased sb pages =
+    map (page_after_erase shape erased sb pages) (range_with_len 0 (length pages))
+
+-- the cells after that: the running sum stays
+abbrev pub cells_after_erase : Shape → CellLaw → ℕ → CellsState → CellsState
+cells_after_erase shape law sb cells =
+    record { pages = pages_after_erase shape law.erased sb cells.pages; sum = cells.sum }
 
 -- the cells are those that a channel has after a past
 pub record CellsFit (start : Start) (contents : List (Tag × List ℕ)) (past : List Entry) (cells : CellsState) : Type 0 where

@@ -1,5 +1,9 @@
 pub mod CellsState
 pub mod ChannelState
+pub mod Collecting
+pub mod Condemning
+pub mod Copying
+pub mod Noting
 pub mod SmallChannel
 pub mod Steps
 pub mod TablesState

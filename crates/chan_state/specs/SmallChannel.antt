@@ -8,6 +8,7 @@ use Rattle.ssd_geo.specs.declared.row.Row.{Row}
 use Rattle.ssd_geo.specs.declared.shape.Shape.{Shape}
 use Rattle.chan_state.specs.ChannelState.{ChannelState}
 use Rattle.chan_state.specs.Steps.{senses_made}
+use Rattle.chan_state.specs.TablesState.{ends_recovered, ends_uncorrectable}
 
 -- the base of the blank channel of a drive with these sizes
 abbrev pub small_base : Shape → ChannelBase
@@ -28,7 +29,7 @@ small_base shape = record {
   weak = [];
 }
 
--- a channel on which steps are tried: it has the small sizes, no sense failed, and no sense names a look that is to come
+-- a channel on which steps are tried: it has the small sizes, no sense failed, and no entry is of a look that is to come
 pub record IsTried (channel : ChannelState) : Type 0 where
   pub rows : channel.shape.rows ≡ 8
   pub dies : channel.shape.dies ≡ 3
@@ -37,4 +38,6 @@ pub record IsTried (channel : ChannelState) : Type 0 where
   pub columns : channel.shape.nb ≡ 6
   pub lifting : channel.shape.z ≡ 64
   pub none_ahead : (at : ℕ) → length channel.past ≤ at → senses_made channel at ≡ 0
+  pub none_recovered : (at : ℕ) → length channel.past ≤ at → IsFalse (ends_recovered channel.past at)
+  pub none_uncorrectable : (at : ℕ) → length channel.past ≤ at → IsFalse (ends_uncorrectable channel.past at)
   pub faultless : (at : ℕ) → IsFalse (has_fault_sense channel.past at)

@@ -13,6 +13,7 @@ use Rattle.ssd_geo.specs.OpenLooks.{look_at}
 use Rattle.ssd_geo.specs.PageMap.{row_at}
 use Rattle.ssd_geo.specs.PastPages.{ladder_of, sense_of}
 use Rattle.ssd_geo.specs.PastRows.{row_change, serial_of}
+use Rattle.ssd_geo.specs.Ranges.{has_slot}
 use Rattle.ssd_geo.specs.SerialCalls.{entry_of}
 use Rattle.ssd_geo.specs.Start.{Start, data_of}
 use Rattle.ssd_geo.specs.Superblock.{slots_of}
@@ -22,9 +23,11 @@ use Rattle.ssd_geo.specs.declared.place.Place.{Place}
 use Rattle.ssd_geo.specs.declared.row.Row.{Row}
 use Rattle.ssd_geo.specs.declared.stop.StepStop.{StepStop}
 use Rattle.ssd_geo.specs.declared.tag.Tag.{Tag}
-use Rattle.chan_state.specs.CellsState.{AreCellsOf, CellsState, cells_after_program}
+use Rattle.chan_state.specs.CellsState.{AreCellsOf, CellsState, cells_after_program, pages_after_age}
 use Rattle.chan_state.specs.ChannelState.{ChannelState, SameDrive, StandsFor}
 use Rattle.chan_state.specs.TablesState.{IsStopped, TablesState, is_closed_row, room_of_look, room_of_step, senses_had}
+use Rattle.chan_state.specs.declared.answers.AgeAnswer.{AgeAnswer}
+use Rattle.chan_state.specs.declared.answers.AgeAnswer.TheVariants.{Aged}
 use Rattle.chan_state.specs.declared.answers.LookAnswer.{LookAnswer}
 use Rattle.chan_state.specs.declared.answers.LookAnswer.TheVariants.{Empty, Lost, Found}
 use Rattle.chan_state.specs.declared.answers.WriteAnswer.{WriteAnswer}
@@ -98,7 +101,8 @@ pub record CellsStay (old new : ChannelState) : Type 0 where
 abbrev pub IsOpen : ChannelState → Tag → ℕ → Type 0
 IsOpen channel tag at = IsSome (look_by tag (look_at channel.looks at))
 
--- a look of a row answers what the page map holds; where that is a page, the look is open from then on
+-- a look of a row answers what the page map holds; where that is a page, it is one of the channel's slots, and the look is
+-- open from then on
 abbrev pub LooksAt : ChannelState → ChannelState → Tag → ℕ → LookAnswer → Type 0
 LooksAt old new tag row Empty = (row_at old.rows row ≡ Row.Empty) × AddsEntry old new tag (Kind.Look row Row.Empty false)
 LooksAt old new tag row Lost = (row_at old.rows row ≡ Row.Lost) × AddsEntry old new tag (Kind.Look row Row.Lost false)
@@ -107,6 +111,7 @@ LooksAt old new tag row (Found look) =
     × AddsEntry old new tag (Kind.Look row (Row.Page look.slot look.serial) look.closed)
     × (look_by tag (look_at new.looks look.at) ≡ Some look)
     × (look.closed ≡ is_closed_row old.shape old.blocks (Row.Page look.slot look.serial))
+    × IsTrue (has_slot old.shape look.slot)
 
 -- how many senses a look has had
 abbrev pub senses_made : ChannelState → ℕ → ℕ
@@ -154,3 +159,12 @@ Programs old new word (Written slot) =
     cells_in new
     ≡ cells_after_program old.shape old.law old.channel slot (block_at old.blocks slot.sb).erases word (cells_in old)
 Programs old new word NeedRoom = CellsStay old new
+
+-- an ageing of a block adds its entry
+abbrev pub Ages : ChannelState → ChannelState → Tag → ℕ → ℕ → ℕ → AgeAnswer → Type 0
+Ages old new tag die sb amount Aged = AddsEntry old new tag (Kind.Age die sb amount)
+
+-- it ages the pages of its block, and leaves the others and the running sum as they were
+abbrev pub AgesCells : ChannelState → ChannelState → ℕ → ℕ → ℕ → AgeAnswer → Type 0
+AgesCells old new die sb amount Aged =
+    (new.pages ≡ pages_after_age old.shape old.law die sb amount old.pages) × (new.sum ≡ old.sum)

@@ -1,12 +1,14 @@
 -- What do the tables of a channel hold, and what does an entry make of them? They are all that a channel keeps but its
 -- cells. What an entry does to them follows from its kind alone, for every kind.
-use Rattle.std.specs.Prelude.{ℕ, ◌≡◌, ◌+◌, ◌-◌, ◌*◌, ◌^◌, ◌≤◌, ◌<◌, Bool, false, IsTrue, IsFalse, List, ◌∷◌, length, count_by, sum_by, Some, Result, Ok, Err, All, ⊤}
+use Rattle.std.specs.Prelude.{ℕ, ◌≡◌, ◌+◌, ◌-◌, ◌*◌, ◌^◌, ◌≤◌, ◌<◌, Bool, false, IsTrue, IsFalse, List, ◌∷◌, length, count_by, sum_by, if◌then◌else◌, Some, Result, Ok, Err, All, ⊤}
+use Rattle.std.specs.List.{list_any}
 use Rattle.allocator.specs.Superblocks.{Superblocks}
 use Rattle.map_rows.specs.PageMap.{PageMap}
 use Rattle.ssd_geo.specs.BlockLaws.{blocks_after}
 use Rattle.ssd_geo.specs.Blocks.{block_at, has_host_room, next_slot_of}
 use Rattle.ssd_geo.specs.CallSteps.{is_sense_of}
-use Rattle.ssd_geo.specs.History.{looks_after}
+use Rattle.ssd_geo.specs.Copies.{is_after_recovered, is_after_uncorrectable}
+use Rattle.ssd_geo.specs.History.{looks_after, open_looks}
 use Rattle.ssd_geo.specs.HistoryLaws.{rows_after}
 use Rattle.ssd_geo.specs.PageMap.{NameApart, NameWithin, row_at}
 use Rattle.ssd_geo.specs.PastRows.{row_change}
@@ -110,9 +112,19 @@ WritesTables old new tag row NeedRoom = IsFalse (has_host_room old.blocks) × (n
 abbrev pub senses_had : List Entry → ℕ → ℕ
 senses_had past at = count_by (λ entry. is_sense_of at entry.kind) past
 
--- how many entries an open look still has set aside: at first 255, and 87 of them aren't for senses
+-- whether an entry ended the copy of a look's page as one that was recovered, and as one that can't be
+abbrev pub ends_recovered : List Entry → ℕ → Bool
+ends_recovered past at = list_any (λ entry. is_after_recovered at entry.kind) past
+
+abbrev pub ends_uncorrectable : List Entry → ℕ → Bool
+ends_uncorrectable past at = list_any (λ entry. is_after_uncorrectable at entry.kind) past
+
+-- how many entries an open look still has set aside: at first 255. They are for its senses, for an entry of each kind that
+-- ends a copy, and for its leave, with some to spare.
 abbrev pub set_aside : List Entry → Tag × Look → ℕ
-set_aside past pin = 87 + (168 - senses_had past pin.1.at)
+set_aside past pin =
+    85 + (168 - senses_had past pin.1.at) + (if ends_recovered past pin.1.at then 0 else 1)
+    + (if ends_uncorrectable past pin.1.at then 0 else 1)
 
 -- the entries of a history, with those that its open looks have set aside
 abbrev pub needed_for : List Entry → List (Tag × Look) → ℕ
@@ -129,9 +141,13 @@ pub record AreRowsOf (superblocks slots : ℕ) (rows : List Row) : Type 0 where
   pub within : NameWithin superblocks slots rows
   pub apart : NameApart rows
 
--- a look began before a position
-abbrev pub BeganBefore : ℕ → Tag × Look → Type 0
-BeganBefore at pin = pin.1.at < at
+-- a look is of one of so many rows
+abbrev pub IsOfRow : ℕ → Tag × Look → Type 0
+IsOfRow rows pin = pin.1.row < rows
+
+-- a superblock was erased at most once for each of so many entries, beside its erases before them
+abbrev pub HasFewErases : ℕ → BlockBase → Type 0
+HasFewErases entries block = block.erases ≤ 2 ^ 31 + entries
 
 -- the tables fit each other and the sizes, and the history has room for what is set aside
 pub record FitTogether (shape : Shape) (session : ℕ) (map : PageMap) (superblocks : Superblocks) (looks : List (Tag × Look)) (history : HistoryState) : Type 0 where
@@ -142,6 +158,9 @@ pub record FitTogether (shape : Shape) (session : ℕ) (map : PageMap) (superblo
   pub blocks_count : length superblocks.blocks ≡ shape.superblocks
   pub blocks_slots : superblocks.slots ≡ slots_of shape.pages shape.dies
   pub names_used : (row : ℕ) → NamesUsedIn superblocks.blocks (row_at map.rows row)
-  pub began_before : All (BeganBefore (length history.past)) looks
+  pub few_erases : All (HasFewErases (length history.past)) superblocks.blocks
+  pub looks_are : looks ≡ open_looks history.past
+  pub looks_rows : All (IsOfRow shape.rows) looks
+  pub limit_high : history.limit ≤ 2 ^ 22
   pub in_limit : needed_for history.past looks ≤ history.limit
   pub in_room : needed_for history.past looks ≤ history.room

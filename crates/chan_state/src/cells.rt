@@ -1,14 +1,14 @@
-ghost use Rattle.std.specs.Prelude.{◌≡◌, ◌*◌, ◌<◌, [], IfOk, IsTrue, length, map, replicate, slice_index_or};
-ghost use Rattle.ssd_geo.specs.Cells.{IsCellLaw, sensed};
+ghost use Rattle.std.specs.Prelude.{◌≡◌, ℕ, ◌*◌, ◌<◌, [], IfOk, IsTrue, if◌then◌else◌, length, map, replicate, slice_index_or};
+ghost use Rattle.ssd_geo.specs.Cells.{IsCellLaw, aged_level, sensed};
 ghost use Rattle.ssd_geo.specs.Coding.{word_bytes_in};
 ghost use Rattle.ssd_geo.specs.Noise.{number_of_page};
 ghost use Rattle.ssd_geo.specs.Ranges.{has_place};
 ghost use Rattle.ssd_geo.specs.Stripe.{is_last_of_stripe, place_of_parity, stripe_of_index};
 ghost use Rattle.ssd_geo.specs.Superblock.{slots_of};
-ghost use Rattle.chan_state.specs.CellsState.{pages_after_program};
+ghost use Rattle.chan_state.specs.CellsState.{pages_after_erase, pages_after_program};
 ghost use Rattle.chan_state.specs.ChannelState.{page_number};
 
-use cell_law::{fresh_into, sense_into};
+use cell_law::{age_cell, fresh_into, sense_into};
 use die_parity::StripeSum;
 use ssd_geo::{CellLaw, Memory, Place, Shape, Slot};
 use std::alloc::Global;
@@ -35,7 +35,7 @@ impl Model for Cells {
 }
 
 impl Cells {
-    ghost use Rattle.chan_state.specs.CellsState.{AreCellsOf, cells_after_program};
+    ghost use Rattle.chan_state.specs.CellsState.{AreCellsOf, cells_after_age, cells_after_erase, cells_after_program};
 
     /// The cells of blank dies, with the sum of a stripe's words so far.
     pub fn new(alloc: Global, shape: &Shape, erased: i16, sum: Vec<u8>) -> Result<Cells, Memory>
@@ -97,6 +97,28 @@ impl Cells {
         }
     }
 
+    /// Ages the pages of a block by an amount.
+    pub fn age(&mut self, shape: &Shape, law: &CellLaw, die: u8, sb: u16, amount: u16)
+        requires die { die < shape.now.dies }
+        requires superblock { sb < shape.now.superblocks }
+        requires sizes { AreCellsOf shape.now self.old }
+        ensures cells { self.new ≡ cells_after_age shape.now law.now die sb amount self.old }
+        ensures sizes { AreCellsOf shape.now self.new }
+    {
+        let first = number_of(shape, 0, Place { die, sb, page: 0 }) as usize;
+        let block = &mut self.pages[first..first + shape.pages as usize];
+        age_pages(block, law.erased, amount);
+    }
+
+    /// Empties the pages of a superblock.
+    pub fn erase(&mut self, shape: &Shape, law: &CellLaw, sb: u16)
+        requires { AreCellsOf shape.now self.old }
+        ensures cells { self.new ≡ cells_after_erase shape.now law.now sb self.old }
+        ensures sizes { AreCellsOf shape.now self.new }
+    {
+        empty_pages(&mut self.pages, shape, law.erased, sb);
+    }
+
     /// Senses a page at a level.
     pub fn sense(&self, shape: &Shape, place: Place, level: i16, out: &mut [u8])
         requires place { IsTrue (has_place shape.now place) }
@@ -147,6 +169,48 @@ fn program_page(
     let number = number_of(shape, 0, place);
     let in_drive = number_of(shape, channel, place);
     fresh_into(law, in_drive, erases, word, &mut pages[number as usize]);
+}
+
+// Empties the pages of a superblock, whose numbers stand together in each die.
+fn empty_pages(pages: &mut [Vec<i16>], shape: &Shape, erased: i16, sb: u16)
+    requires { let levels = map (λ page. page.items) pages.old in
+        (number : ℕ) → number < length levels
+        → length (slice_index_or levels number []) ≡ shape.now.nb * shape.now.z }
+    ensures { let levels = map (λ page. page.items) pages.old in
+        map (λ page. page.items) pages.new ≡ pages_after_erase shape.now erased sb levels }
+{
+    for number in 0..pages.len() {
+        let inside = number / shape.pages as usize % shape.superblocks as usize == sb as usize;
+        empty_page(&mut pages[number], erased, inside);
+    }
+}
+
+// Empties a page where it is one of a superblock's.
+fn empty_page(levels: &mut [i16], erased: i16, inside: bool)
+    ensures { levels.new ≡ (if inside then replicate (length levels.old) erased else levels.old) }
+{
+    if inside {
+        levels.fill(erased);
+    }
+}
+
+// Ages pages by an amount.
+fn age_pages(pages: &mut [Vec<i16>], erased: i16, amount: u16)
+    ensures { let levels = map (λ page. page.items) pages.old in
+        map (λ page. page.items) pages.new ≡ map (map (aged_level erased amount)) levels }
+{
+    for page in pages.iter_mut() {
+        age_page(page, erased, amount);
+    }
+}
+
+// Ages the cells of a page by an amount.
+fn age_page(levels: &mut [i16], erased: i16, amount: u16)
+    ensures { levels.new ≡ map (aged_level erased amount) levels.old }
+{
+    for level in levels.iter_mut() {
+        *level = age_cell(*level, erased, amount);
+    }
 }
 
 // The number of a page in the drive. Among those of its channel it has the number that it has in channel 0.

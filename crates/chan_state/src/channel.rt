@@ -9,11 +9,13 @@ ghost use Rattle.ssd_geo.specs.declared.kind.Kind.{Kind};
 
 use crate::cells::Cells;
 use crate::tables::Tables;
-use crate::{LookAnswer, SenseAnswer, WriteAnswer};
+use crate::{AgeAnswer, LookAnswer, Note, SenseAnswer, WriteAnswer};
 use ssd_geo::{CellLaw, ChannelBase, Entry, Items, Memory, Place, StepStop, Tag};
 use std::alloc::Global;
 use std::marker::Model;
 
+mod collecting;
+mod moving;
 #[cfg(test)]
 mod tests;
 
@@ -39,7 +41,8 @@ impl Model for Channel {
 
 impl Channel {
     ghost use Rattle.chan_state.specs.ChannelState.{HasBegun, IsBlankStart, KeepsStanding, page_levels};
-    ghost use Rattle.chan_state.specs.Steps.{AddsEntry, CellsStay, HasLookRoom, HasStepRoom, IsOpen, IsRefused, LeavesFor, LooksAt, MaySense, Programs, SensesFor, Writes, WritesFor};
+    ghost use Rattle.chan_state.specs.Noting.{Notes};
+    ghost use Rattle.chan_state.specs.Steps.{AddsEntry, Ages, AgesCells, CellsStay, HasLookRoom, HasStepRoom, IsOpen, IsRefused, LeavesFor, LooksAt, MaySense, Programs, SensesFor, Writes, WritesFor};
 
     /// A channel that begins as an image of blank dies has it, with a limit of its history's entries.
     pub fn start(alloc: Global, base: ChannelBase, limit: u32) -> Result<Channel, Memory>
@@ -147,6 +150,33 @@ impl Channel {
         ensures stands { KeepsStanding self.old self.new }
     {
         self.tables.trimmed(tag, row)
+    }
+
+    /// Ages a block by an amount.
+    pub fn age(&mut self, tag: Tag, die: u8, sb: u16, amount: u16) -> Result<AgeAnswer, StepStop>
+        requires die { die < self.old.shape.dies }
+        requires superblock { sb < self.old.shape.superblocks }
+        ensures room { IsRefused (HasStepRoom self.old) self.old result }
+        ensures ok { IfOk result (λ answer. Ages self.old self.new tag die sb amount answer) }
+        ensures cells { IfOk result (λ answer. AgesCells self.old self.new die sb amount answer) }
+        ensures err { OnErr result (self.new ≡ self.old) }
+        ensures stands { KeepsStanding self.old self.new }
+    {
+        self.tables.aged(tag, die, sb, amount)?;
+        self.cells
+            .age(self.tables.shape(), &self.law, die, sb, amount);
+        Ok(AgeAnswer::Aged)
+    }
+
+    /// Tells how full the channel is.
+    pub fn note(&mut self, tag: Tag) -> Result<Note, StepStop>
+        ensures room { IsRefused (HasStepRoom self.old) self.old result }
+        ensures ok { IfOk result (λ note. Notes self.old self.new tag note) }
+        ensures cells { CellsStay self.old self.new }
+        ensures err { OnErr result (self.new ≡ self.old) }
+        ensures stands { KeepsStanding self.old self.new }
+    {
+        self.tables.noted(tag)
     }
 
     /// The history, oldest entry first.

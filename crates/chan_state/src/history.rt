@@ -47,12 +47,9 @@ impl History {
         self.entries.len() as u32
     }
 
-    /// Takes memory for so many more entries, where the limit allows them.
-    pub(crate) fn make_room(&mut self, needed: u64) -> Result<(), StepStop>
-        ensures room { IsStopped (length self.old.past + needed ≤ self.old.limit) (length self.old.past) result }
-        ensures made { OnOk result (length self.old.past + needed ≤ self.new.room) }
-        ensures grows { self.old.room ≤ self.new.room }
-        ensures same { self.new ≡ record self.old { room = self.new.room } }
+    /// Whether the limit allows so many more entries.
+    pub(crate) fn allow(&self, needed: u64) -> Result<(), StepStop>
+        ensures { IsStopped (length self.now.past + needed ≤ self.now.limit) (length self.now.past) result }
     {
         let length = self.entries.len();
         if needed > self.limit as u64 - length as u64 {
@@ -60,6 +57,17 @@ impl History {
                 length: length as u32,
             });
         }
+        Ok(())
+    }
+
+    /// Takes memory for so many more entries, where the limit allows them.
+    pub(crate) fn make_room(&mut self, needed: u64) -> Result<(), StepStop>
+        ensures room { IsStopped (length self.old.past + needed ≤ self.old.limit) (length self.old.past) result }
+        ensures made { OnOk result (length self.old.past + needed ≤ self.new.room) }
+        ensures grows { self.old.room ≤ self.new.room }
+        ensures same { self.new ≡ record self.old { room = self.new.room } }
+    {
+        self.allow(needed)?;
         match self.entries.reserve(needed as usize) {
             Ok(()) => Ok(()),
             Err(_) => Err(StepStop::Memory),

@@ -8,5 +8,8 @@ mod channel;
 mod history;
 mod tables;
 
-pub use answers::{LookAnswer, SenseAnswer, WriteAnswer};
+pub use answers::{
+    AgeAnswer, CondemnAnswer, EraseAnswer, LiveAnswer, LookAnswer, MoveAnswer, Note, SenseAnswer,
+    WriteAnswer,
+};
 pub use channel::Channel;

@@ -1,5 +1,5 @@
 // The tables of a channel: its page map, its superblocks, its open looks and its history.
-ghost use Rattle.std.specs.Prelude.{◌≡◌, ℕ, ◌+◌, ◌^◌, ◌<◌, ◌≤◌, ◌↔◌, ◌++◌, ◌∷◌, [], IfErr, IfOk, IfSome, IsSome, IsTrue, None, OnErr, OnOk, length, replicate, if◌then◌else◌};
+ghost use Rattle.std.specs.Prelude.{◌≡◌, ℕ, ◌+◌, ◌^◌, ◌<◌, ◌≤◌, ◌↔◌, ◌++◌, ◌∷◌, [], All, IfErr, IfOk, IfSome, IsSome, IsTrue, None, OnErr, OnOk, length, replicate, if◌then◌else◌};
 ghost use Rattle.ssd_geo.specs.Blocks.{AreSound, block_at, has_any_room, has_host_room, next_slot_of};
 ghost use Rattle.ssd_geo.specs.History.{history_of};
 ghost use Rattle.ssd_geo.specs.OpenLooks.{look_at};
@@ -9,7 +9,7 @@ ghost use Rattle.ssd_geo.specs.Ranges.{has_row};
 ghost use Rattle.ssd_geo.specs.Superblock.{slots_of};
 ghost use Rattle.ssd_geo.specs.Stripe.{is_closed, stripe_of_index};
 ghost use Rattle.ssd_geo.specs.declared.row.Row.TheVariants.{Empty};
-ghost use Rattle.chan_state.specs.TablesState.{AreRowsOf, IsStopped, LooksIn, NamesUsedIn, WritesTables, is_closed_row, room_of_look, room_of_step, senses_had, tables_after};
+ghost use Rattle.chan_state.specs.TablesState.{AreRowsOf, HasFewErases, IsStopped, LooksIn, NamesUsedIn, WritesTables, is_closed_row, room_of_look, room_of_step, senses_had, tables_after};
 
 use crate::history::History;
 use crate::{LookAnswer, WriteAnswer};
@@ -22,7 +22,12 @@ use ssd_geo::{
 use std::alloc::Global;
 use std::marker::Model;
 
-/// Entries that a look sets aside: at most 168 senses, one move and one leave, with room to spare.
+mod collecting;
+mod condemning;
+mod moving;
+mod noting;
+
+/// Entries that a look sets aside: its own, at most 168 senses, a move or a condemnation, and a leave, with some to spare.
 const LOOK_ROOM: u64 = 256;
 
 /// All that a channel keeps but its cells. Contracts see it as its lists.
@@ -70,6 +75,8 @@ impl Tables {
         requires rows { AreRowsOf shape.superblocks (slots_of shape.pages shape.dies) rows.now }
         requires rows_count { length rows.now ≡ shape.rows }
         requires used { (row : ℕ) → NamesUsedIn blocks (row_at rows.now row) }
+        requires few_erases { All (HasFewErases 0) blocks }
+        requires limit { limit ≤ 2 ^ 22 }
         ensures { IfOk result (λ tables. tables ≡ record {
           shape = shape;
           session = session;
@@ -189,6 +196,21 @@ impl Tables {
         self.history.push(Entry {
             tag,
             kind: Kind::Trim { row },
+        });
+        Ok(())
+    }
+
+    /// Records an ageing of a block.
+    pub(crate) fn aged(&mut self, tag: Tag, die: u8, sb: u16, amount: u16) -> Result<(), StepStop>
+        ensures room { IsStopped (length self.old.past + room_of_step self.old.looks ≤ self.old.limit)
+            (length self.old.past) result }
+        ensures ok { OnOk result (self.new ≡ tables_after self.old tag (Kind.Age die sb amount)) }
+        ensures err { OnErr result (self.new ≡ self.old) }
+    {
+        self.history.make_room(step_room(&self.looks))?;
+        self.history.push(Entry {
+            tag,
+            kind: Kind::Age { die, sb, amount },
         });
         Ok(())
     }

@@ -2,7 +2,7 @@ ghost use Rattle.std.specs.Prelude.{◌≡◌, ◌≤◌, ◌<◌, ◌^◌, ℕ,
 ghost use Rattle.ssd_geo.specs.Shape.{HasSizes};
 ghost use Rattle.chan_state.specs.SmallChannel.{IsTried, small_base};
 
-use crate::{Channel, LookAnswer, WriteAnswer};
+use crate::{AgeAnswer, Channel, LookAnswer, WriteAnswer};
 use ssd_geo::{
     BlockBase, CellLaw, ChannelBase, Entry, Items, Kind, Look, Place, Row, SbState, Shape, Slot,
     StepStop, Tag,
@@ -11,10 +11,17 @@ use std::alloc::Global;
 use std::process::Abort;
 use std::test::Fail;
 
-// Two words, and the place of slot 1 of superblock 0.
+mod collecting;
+mod moving;
+
+// Two words, a word of 1s, one of 0s, and the place of slot 1 of superblock 0.
 const FIRST: [u8; 48] = [0x0f; 48];
 
 const SECOND: [u8; 48] = [0x35; 48];
+
+const ONES: [u8; 48] = [0xff; 48];
+
+const ZEROS: [u8; 48] = [0; 48];
 
 const PLACE: Place = Place {
     die: 2,
@@ -106,8 +113,30 @@ fn trim(channel: &mut Channel, call: u32, row: u32) -> Result<(), StepStop>
     channel.trim(tag(call), row)
 }
 
+// Ages a block.
+fn age(
+    channel: &mut Channel,
+    call: u32,
+    die: u8,
+    sb: u16,
+    amount: u16,
+) -> Result<AgeAnswer, StepStop>
+    requires tried { IsTried channel.old }
+    requires die { die < 3 }
+    requires superblock { sb < 4 }
+    ensures { IsTried channel.new }
+{
+    channel.age(tag(call), die, sb, amount)
+}
+
 // Looks at a row, and senses what stands at the place before it leaves the look.
-fn read(channel: &mut Channel, call: u32, row: u32, out: &mut [u8]) -> Result<LookAnswer, StepStop>
+fn read(
+    channel: &mut Channel,
+    call: u32,
+    row: u32,
+    level: i16,
+    out: &mut [u8],
+) -> Result<LookAnswer, StepStop>
     requires tried { IsTried channel.old }
     requires row { row < 8 }
     requires word { length out.old ≡ 48 }
@@ -116,10 +145,20 @@ fn read(channel: &mut Channel, call: u32, row: u32, out: &mut [u8]) -> Result<Lo
     let by = tag(call);
     let answer = channel.look(by, row)?;
     if let LookAnswer::Found(look) = answer {
-        let _ = channel.sense(by, look.at, PLACE, 0, out);
+        let _ = channel.sense(by, look.at, PLACE, level, out);
         channel.leave(by, look.at);
     }
     Ok(answer)
+}
+
+// What the page of row 3 at the place senses at a level.
+fn sensed(channel: &mut Channel, call: u32, level: i16) -> Result<[u8; 48], StepStop>
+    requires { IsTried channel.old }
+    ensures { IsTried channel.new }
+{
+    let mut out = [0; 48];
+    let _ = read(channel, call, 3, level, &mut out)?;
+    Ok(out)
 }
 
 // Whether a write into the slot was made.
@@ -141,7 +180,7 @@ fn a_row_is_written_again_and_read(rt: HostRuntime) -> Result<(), Fail> {
     };
     let mut out = [0; 48];
     assert_eq!(rt;
-        read(&mut channel, 2, 3, &mut out),
+        read(&mut channel, 2, 3, 0, &mut out),
         Ok(LookAnswer::Found(look))
     );
     assert_eq!(rt; out, SECOND);
@@ -191,10 +230,16 @@ fn a_row_is_written_again_and_read(rt: HostRuntime) -> Result<(), Fail> {
 fn a_row_is_trimmed_and_empty(rt: HostRuntime) -> Result<(), Fail> {
     let mut channel = begun(rt.alloc(), 4096)?;
     let mut out = [0; 48];
-    assert_eq!(rt; read(&mut channel, 0, 3, &mut out), Ok(LookAnswer::Empty));
+    assert_eq!(rt;
+        read(&mut channel, 0, 3, 0, &mut out),
+        Ok(LookAnswer::Empty)
+    );
     assert!(rt; is_written(write(&mut channel, 1, 3, &FIRST), slot(0, 0)));
     assert_eq!(rt; trim(&mut channel, 2, 3), Ok(()));
-    assert_eq!(rt; read(&mut channel, 3, 3, &mut out), Ok(LookAnswer::Empty));
+    assert_eq!(rt;
+        read(&mut channel, 3, 3, 0, &mut out),
+        Ok(LookAnswer::Empty)
+    );
     let history = [
         entry(
             0,
@@ -230,7 +275,7 @@ fn a_look_finds_no_room_in_the_history(rt: HostRuntime) -> Result<(), Fail> {
     let mut channel = begun(rt.alloc(), 256)?;
     assert!(rt; is_written(write(&mut channel, 0, 5, &FIRST), slot(0, 0)));
     let full = Err(StepStop::HistoryFull { length: 1 });
-    assert_eq!(rt; read(&mut channel, 1, 5, &mut [0; 48]), full);
+    assert_eq!(rt; read(&mut channel, 1, 5, 0, &mut [0; 48]), full);
     assert_eq!(rt; channel.history().len(), 1);
     Ok(())
 }
@@ -248,5 +293,60 @@ fn a_write_needs_room_after_twelve(rt: HostRuntime) -> Result<(), Fail> {
     let answer = write(&mut channel, 12, 0, &FIRST);
     assert_eq!(rt; answer, Ok(WriteAnswer::NeedRoom));
     assert_eq!(rt; channel.history().len(), 12);
+    Ok(())
+}
+
+// A channel with a page of row 3 at the place, and another page of its stripe.
+fn written(alloc: Global) -> Result<Channel, Fail>
+    ensures { IfOk result (λ channel. IsTried channel) }
+{
+    let mut channel = begun(alloc, 4096)?;
+    let _ = write(&mut channel, 0, 2, &FIRST)?;
+    let _ = write(&mut channel, 1, 3, &SECOND)?;
+    Ok(channel)
+}
+
+#[test]
+fn an_aged_page_is_clean_at_a_lower_level(rt: HostRuntime) -> Result<(), Fail> {
+    let mut channel = written(rt.alloc())?;
+    assert_eq!(rt; age(&mut channel, 2, 2, 0, 150), Ok(AgeAnswer::Aged));
+    let aged = entry(
+        2,
+        Kind::Age {
+            die: 2,
+            sb: 0,
+            amount: 150,
+        },
+    );
+    assert_eq!(rt; channel.history().last(), Some(&aged));
+    assert_eq!(rt; sensed(&mut channel, 3, 0), Ok(ONES));
+    assert_eq!(rt; sensed(&mut channel, 4, -49), Ok(ONES));
+    assert_eq!(rt; sensed(&mut channel, 5, -50), Ok(SECOND));
+    assert_eq!(rt; sensed(&mut channel, 6, -60), Ok(SECOND));
+    Ok(())
+}
+
+#[test]
+fn ageing_another_block_changes_nothing(rt: HostRuntime) -> Result<(), Fail> {
+    let mut channel = written(rt.alloc())?;
+    assert_eq!(rt; age(&mut channel, 2, 1, 0, 150), Ok(AgeAnswer::Aged));
+    assert_eq!(rt; age(&mut channel, 3, 0, 0, 150), Ok(AgeAnswer::Aged));
+    assert_eq!(rt; age(&mut channel, 4, 2, 1, 150), Ok(AgeAnswer::Aged));
+    assert_eq!(rt; sensed(&mut channel, 5, 100), Ok(SECOND));
+    assert_eq!(rt; sensed(&mut channel, 6, 101), Ok(ONES));
+    Ok(())
+}
+
+#[test]
+fn ageings_add_up_to_the_erased_level(rt: HostRuntime) -> Result<(), Fail> {
+    let mut channel = written(rt.alloc())?;
+    assert_eq!(rt; age(&mut channel, 2, 2, 0, 100), Ok(AgeAnswer::Aged));
+    assert_eq!(rt; sensed(&mut channel, 3, 0), Ok(SECOND));
+    assert_eq!(rt; age(&mut channel, 4, 2, 0, 50), Ok(AgeAnswer::Aged));
+    assert_eq!(rt; sensed(&mut channel, 5, 0), Ok(ONES));
+    assert_eq!(rt; sensed(&mut channel, 6, -60), Ok(SECOND));
+    assert_eq!(rt; age(&mut channel, 7, 2, 0, 16_383), Ok(AgeAnswer::Aged));
+    assert_eq!(rt; sensed(&mut channel, 8, -99), Ok(ONES));
+    assert_eq!(rt; sensed(&mut channel, 9, -100), Ok(ZEROS));
     Ok(())
 }

@@ -9,7 +9,7 @@ pub returns-clause-ok : goal.returns-clause-ok
 returns-clause-ok c =
     let was : ChannelState = channel_of c.self.inside.channel c.self.inside.law c.self.inside.tables c.self.inside.cells in
     subst (λ (s : ChannelState). IfOk c.look.result (λ answer. LooksAt s (with_tables was c.look.new.self) c.args.tag c.args.row answer)) c.self.view_is
-    (looks_answer was c.look.new.self c.args.tag c.args.row c.look.result c.look.ensures.ok c.look.ensures.is_first)
+    (looks_answer was c.look.new.self c.args.tag c.args.row c.look.result c.look.ensures.ok c.look.ensures.is_first c.look.ensures.in_range)
 
 pub returns-clause-stands : goal.returns-clause-stands
 returns-clause-stands c =

@@ -7,7 +7,7 @@ use Rattle.ssd_geo.specs.declared.tag.Tag.{Tag}
 use Rattle.chan_state.specs.Steps.{LooksAt, MaySense}
 use Rattle.chan_state.specs.declared.answers.LookAnswer.{LookAnswer}
 use Rattle.chan_state.specs.declared.answers.LookAnswer.TheVariants.{Found}
-use Rattle.chan_state.proofs.SmallStart.{first_sense, look_is_past, tried_left, tried_looked, tried_sensed}
+use Rattle.chan_state.proofs.TriedSteps.{first_sense, look_is_past, tried_left, tried_looked, tried_sensed}
 use Rattle.chan_state.proofs.channel.tests.read.Goals as goal
 
 pub sense-requires-clause-may : goal.sense-requires-clause-may

@@ -1,4 +1,4 @@
-use Rattle.chan_state.proofs.SmallStart.{tried_trimmed}
+use Rattle.chan_state.proofs.TriedSteps.{tried_trimmed}
 use Rattle.chan_state.proofs.channel.tests.trim.Goals as goal
 
 pub returns : goal.returns

@@ -1,4 +1,4 @@
-use Rattle.chan_state.proofs.SmallStart.{tried_written}
+use Rattle.chan_state.proofs.TriedSteps.{tried_written}
 use Rattle.chan_state.proofs.channel.tests.write.Goals as goal
 
 pub returns : goal.returns

@@ -1,0 +1,67 @@
+use Rattle.std.proofs.Common.{◌≡◌, ◌<◌, List, arith, sym, ap, subst, ◌∙◌, Some}
+use Rattle.std.specs.Prelude.{IfSome, IsFalse, IsSome}
+use Rattle.ssd_geo.specs.History.{look_of, open_looks}
+use Rattle.ssd_geo.specs.OpenLooks.{look_at}
+use Rattle.ssd_geo.specs.declared.entry.Entry.{Entry}
+use Rattle.ssd_geo.specs.declared.look.Look.{Look}
+use Rattle.ssd_geo.specs.declared.tag.Tag.{Tag}
+use Rattle.chan_state.specs.TablesState.{IsOfRow, TablesState, ends_recovered}
+use Rattle.chan_state.proofs.EarlierLooks.{each_found, found_has, look_found}
+use Rattle.chan_state.proofs.Fits.{looks_of_tables}
+use Rattle.chan_state.proofs.Longer.{room_for_entry}
+use Rattle.chan_state.proofs.MovedTables.{fit_move, moved_tables}
+use Rattle.chan_state.proofs.tables.Tables.moved.Goals as goal
+
+pub move_answer-answer-requires-clause-row : goal.move_answer-answer-requires-clause-row
+move_answer-answer-requires-clause-row c =
+    let was = c.self.inside in
+    let low : c.unwrap.result.1.row < was.shape.rows =
+    found_has (IsOfRow was.shape.rows) was.looks c.args.at c.unwrap.result c.self.invariant.looks_rows (sym c.find.ensures ∙ c.unwrap.ensures) in
+    omega (arith, low, c.self.invariant.rows_count)
+
+pub take_slot-requires-clause-row : goal.take_slot-requires-clause-row
+take_slot-requires-clause-row c =
+    let was = c.self.inside in
+    let low : c.unwrap.result.1.row < was.shape.rows =
+    found_has (IsOfRow was.shape.rows) was.looks c.args.at c.unwrap.result c.self.invariant.looks_rows (sym c.find.ensures ∙ c.unwrap.ensures) in
+    omega (arith, low, c.self.invariant.rows_count)
+
+pub push-requires-clause-room : goal.push-requires-clause-room
+push-requires-clause-room c =
+    let was = c.self.inside in
+    let looks : ◌≡◌ {A = List (Tag × Look)} was.looks c.args.self.now.looks = ap {B = List (Tag × Look)} (λ (s : TablesState). s.looks) c.self.view_is in
+    let some : IsSome (look_at was.looks c.args.at) = subst (λ (l : List (Tag × Look)). IsSome (look_at l c.args.at)) (sym looks) c.requires.is_open in
+    (room_for_entry was.shape.rows was.history was.looks c.args.at some (looks_of_tables was.shape was.session was.rows was.blocks was.looks was.history c.self.invariant)).0
+
+pub push-requires-clause-limit : goal.push-requires-clause-limit
+push-requires-clause-limit c =
+    let was = c.self.inside in
+    let looks : ◌≡◌ {A = List (Tag × Look)} was.looks c.args.self.now.looks = ap {B = List (Tag × Look)} (λ (s : TablesState). s.looks) c.self.view_is in
+    let some : IsSome (look_at was.looks c.args.at) = subst (λ (l : List (Tag × Look)). IsSome (look_at l c.args.at)) (sym looks) c.requires.is_open in
+    (room_for_entry was.shape.rows was.history was.looks c.args.at some (looks_of_tables was.shape was.session was.rows was.blocks was.looks was.history c.self.invariant)).1
+
+pub invariant_of-self : goal.invariant_of-self
+invariant_of-self c =
+    let was = c.self.inside in
+    let looks : ◌≡◌ {A = List (Tag × Look)} was.looks c.args.self.now.looks = ap {B = List (Tag × Look)} (λ (s : TablesState). s.looks) c.self.view_is in
+    let past : ◌≡◌ {A = List Entry} was.history.past c.args.self.now.past = ap {B = List Entry} (λ (s : TablesState). s.past) c.self.view_is in
+    let some : IsSome (look_at was.looks c.args.at) = subst (λ (l : List (Tag × Look)). IsSome (look_at l c.args.at)) (sym looks) c.requires.is_open in
+    let none : IsFalse (ends_recovered was.history.past c.args.at) = subst (λ (p : List Entry). IsFalse (ends_recovered p c.args.at)) (sym past) c.requires.not_recovered in
+    rw (c.take_slot.ensures.rows, c.take_slot.ensures.blocks, c.push.ensures, c.kind_of.ensures)
+    (fit_move was.shape was.session was.rows was.blocks was.looks was.history c.unwrap.result.1 c.args.tag c.args.at c.move_answer-answer.result c.self.invariant
+    c.move_answer-answer.ensures.value c.move_answer-answer.ensures.in_range some none)
+
+pub returns-clause-new : goal.returns-clause-new
+returns-clause-new c =
+    let was = c.self.inside in
+    let named : look_at (open_looks was.history.past) c.args.at ≡ Some c.unwrap.result =
+    subst (λ (l : List (Tag × Look)). look_at l c.args.at ≡ Some c.unwrap.result) c.self.invariant.looks_are (sym c.find.ensures ∙ c.unwrap.ensures) in
+    let found : look_of was.history.past c.args.at ≡ Some c.unwrap.result.1 = (look_found was.history.past c.args.at c.unwrap.result named).is_look in
+    rw (c.take_slot.ensures.rows, c.take_slot.ensures.blocks, c.push.ensures, c.kind_of.ensures, ← c.self.view_is)
+    (moved_tables was.shape was.session was.rows was.blocks was.looks was.history c.unwrap.result.1 c.args.tag c.args.at c.move_answer-answer.result found c.self.invariant.blocks_slots)
+
+pub returns-clause-in_rows : goal.returns-clause-in_rows
+returns-clause-in_rows c =
+    let was = c.self.inside in
+    subst (λ (s : TablesState). IfSome (look_at s.looks c.args.at) (λ pin. pin.1.row < s.shape.rows)) c.self.view_is
+    (each_found (IsOfRow was.shape.rows) was.looks c.args.at c.self.invariant.looks_rows)

@@ -1,0 +1,39 @@
+-- What does a note tell of a channel?
+use Rattle.std.specs.Prelude.{ℕ, ◌≡◌, List, Some, None}
+use Rattle.ssd_geo.specs.Blocks.{count_of_free, victim_of}
+use Rattle.ssd_geo.specs.OpenLooks.{looks_in}
+use Rattle.ssd_geo.specs.Policies.{count_of_candidates, table_of}
+use Rattle.ssd_geo.specs.Superblock.{slots_of}
+use Rattle.ssd_geo.specs.declared.base.BlockBase.{BlockBase}
+use Rattle.ssd_geo.specs.declared.kind.Kind.{Kind}
+use Rattle.ssd_geo.specs.declared.look.Look.{Look}
+use Rattle.ssd_geo.specs.declared.row.Row.{Row}
+use Rattle.ssd_geo.specs.declared.tag.Tag.{Tag}
+use Rattle.chan_state.specs.ChannelState.{ChannelState}
+use Rattle.chan_state.specs.Copying.{live_in_victim}
+use Rattle.chan_state.specs.Steps.{AddsEntry}
+use Rattle.chan_state.specs.declared.answers.Note.{Note}
+
+-- how many open looks stand in the victim: 0 without one
+abbrev pub pins_in_victim : List BlockBase → List (Tag × Look) → ℕ
+pins_in_victim blocks looks = elim (victim_of blocks) [ Some sb ↦ looks_in looks sb | None ↦ 0 ]
+
+-- the note over superblocks, of so many slots each, rows and open looks
+abbrev pub note_of : ℕ → List BlockBase → List Row → List (Tag × Look) → Note
+note_of slots blocks rows looks = record {
+  free = count_of_free blocks;
+  victim = victim_of blocks;
+  live = live_in_victim blocks rows;
+  pins = pins_in_victim blocks looks;
+  garbage = count_of_candidates (table_of slots blocks rows looks);
+}
+
+-- the entry that a note adds
+abbrev pub kind_of_note : Note → Kind
+kind_of_note note = Kind.Note note.free note.victim note.live note.pins note.garbage
+
+-- a note tells how the channel is, and adds its entry
+abbrev pub Notes : ChannelState → ChannelState → Tag → Note → Type 0
+Notes old new tag note =
+    (note ≡ note_of (slots_of old.shape.pages old.shape.dies) old.blocks old.rows old.looks)
+    × AddsEntry old new tag (kind_of_note note)
