@@ -1,0 +1,126 @@
+-- A look that was just made is open and has no senses: each sense of a lawful past names an open
+-- look, which began before.
+use Rattle.std.proofs.Common.{◌≡◌, ℕ, suc, ◌+◌, ◌≤◌, ◌==◌, cond, Bool, true, false, List, [], ◌∷◌, ◌++◌, length, Option, Some, None, refl, sym, ap, ◌∙◌, zero-add, arith, All}
+use Rattle.std.specs.Prelude.{IsFalse, IsSomeAnd}
+use Rattle.std.proofs.lemmas.Bool.Decides.{nat_tests}
+use Rattle.std.proofs.lemmas.List.Elements.{All-nil}
+use Rattle.std.proofs.lemmas.List.Sums.{sum_by-cons}
+use Rattle.chan_state.proofs.EarlierLooks.{found_new, none_later}
+use Rattle.chan_state.specs.TablesState.{senses_had}
+use Rattle.run_laws.specs.ServedCalls.{after_look}
+use Rattle.ssd_geo.specs.CallSteps.{is_sense_of}
+use Rattle.ssd_geo.specs.History.{look_by, look_of, open_looks}
+use Rattle.ssd_geo.specs.Ladder.{LadderState}
+use Rattle.ssd_geo.specs.Lawful.{IsLawfulBy, IsLawfulKind, IsLawfulSense, has_fault_sense, is_fault_sense_of}
+use Rattle.ssd_geo.specs.OpenLooks.{look_at}
+use Rattle.ssd_geo.specs.SerialCalls.{entry_of}
+use Rattle.ssd_geo.specs.declared.base.ChannelBase.{ChannelBase}
+use Rattle.ssd_geo.specs.declared.entry.Entry.{Entry}
+use Rattle.ssd_geo.specs.declared.kind.Kind.{Kind}
+use Rattle.ssd_geo.specs.declared.look.Look.{Look}
+use Rattle.ssd_geo.specs.declared.row.Row.{Row}
+use Rattle.ssd_geo.specs.declared.tag.Tag.{Tag}
+use Rattle.chan_calls.specs.Caller.{own_look}
+
+-- a look that found a page is open
+pub new_is_own : (past : List Entry) (tag : Tag) (row : ℕ) (look : Look) → look.at ≡ length past →
+    look.row ≡ row →
+    own_look tag (after_look tag row look.slot look.serial look.closed past) look.at ≡ Some look
+new_is_own past tag row look at_is row_is =
+    let made : ℕ → ℕ → Look = λ at row. record {
+      at = at;
+      row = row;
+      slot = look.slot;
+      serial =
+          look.serial;
+      closed = look.closed;
+    } in
+    ap (λ (n : ℕ). look_by tag (look_at (open_looks past ++ (tag, made n row) ∷ []) look.at))
+    (sym at_is)
+    ∙ ap (λ (n : ℕ). look_by tag (look_at (open_looks past ++ (tag, made look.at n) ∷ []) look.at))
+    (sym row_is)
+    ∙ found_new (open_looks past) tag look (none_later past look.at (omega arith))
+
+-- and is the look at its position
+same : (a b : ℕ) → b ≡ a → (a == b) ≡ true
+same a b h = grind (arith, nat_tests)
+
+pub new_is_look : (past : List Entry) (tag : Tag) (row : ℕ) (look : Look) → look.at ≡ length past →
+    look.row ≡ row →
+    look_of (after_look tag row look.slot look.serial look.closed past) look.at ≡ Some look
+new_is_look past tag row look at_is row_is =
+    let made : ℕ → ℕ → Look = λ at row. record {
+      at = at;
+      row = row;
+      slot = look.slot;
+      serial =
+          look.serial;
+      closed = look.closed;
+    } in
+    ap (λ (b : Bool). elim b [ true ↦ Some (made look.at row) | false ↦ look_of past look.at ])
+    (same (length past) look.at at_is)
+    ∙ ap (λ (n : ℕ). Some (made look.at n)) (sym row_is)
+
+-- no look is found where none is open
+not_found : (tag : Tag) (found : Option (Tag × Look)) (P : Look → Type 0) → found ≡ None →
+    IsSomeAnd (look_by tag found) P → ⊥
+not_found tag found P e h = rw e at h
+
+-- a sense of a lawful past, and a failed one, is of a look that began before
+no_sense : (state : ℕ → LadderState) (base : ChannelBase) (past : List Entry) (tag : Tag)
+    (kind : Kind) (at : ℕ) → length past ≤ at → IsLawfulKind state base past tag kind →
+    is_sense_of at kind ≡ false
+no_sense state base past tag (Kind.Sense named place level) at le lawful =
+    by_test (named == at) refl
+  where
+    by_test : (b : Bool) → (named == at) ≡ b → b ≡ false
+    by_test true e =
+        absurd (not_found tag (look_at (open_looks past) named)
+        (λ look. IsLawfulSense (state named) past named place level)
+        (none_later past named (grind (arith, nat_tests))) lawful)
+    by_test false e = refl
+no_sense state base past tag kind at le lawful = refl
+
+no_fault : (state : ℕ → LadderState) (base : ChannelBase) (past : List Entry) (tag : Tag)
+    (kind : Kind) (at : ℕ) → length past ≤ at → IsLawfulKind state base past tag kind →
+    is_fault_sense_of at kind ≡ false
+no_fault state base past tag (Kind.FaultSense named place level) at le lawful =
+    by_test (named == at) refl
+  where
+    by_test : (b : Bool) → (named == at) ≡ b → b ≡ false
+    by_test true e =
+        absurd (not_found tag (look_at (open_looks past) named)
+        (λ look. IsLawfulSense (state named) past named place level)
+        (none_later past named (grind (arith, nat_tests))) lawful)
+    by_test false e = refl
+no_fault state base past tag kind at le lawful = refl
+
+-- so a lawful past has no sense of a look that is still to be made, and none that failed
+pub none_had : (ladder : List Entry → ℕ → LadderState) (base : ChannelBase) (past : List Entry)
+    (at : ℕ) → IsLawfulBy ladder base past → length past ≤ at → senses_had past at ≡ 0
+none_had ladder base [] at lawful le = refl
+none_had ladder base (entry ∷ past) at lawful le =
+    sum_by-cons (λ (e : Entry). cond (is_sense_of at e.kind) 1 0) entry past
+    ∙ ap (λ (b : Bool). cond b 1 0 + senses_had past at)
+    (no_sense (ladder past) base past entry.tag entry.kind at (omega arith) lawful.1.meets)
+    ∙ zero-add (senses_had past at)
+    ∙ none_had ladder base past at lawful.0 (omega arith)
+
+pub none_failed : (ladder : List Entry → ℕ → LadderState) (base : ChannelBase) (past : List Entry)
+    (at : ℕ) → IsLawfulBy ladder base past → length past ≤ at → IsFalse (has_fault_sense past at)
+none_failed ladder base [] at lawful le = refl
+none_failed ladder base (entry ∷ past) at lawful le =
+    rw (no_fault (ladder past) base past entry.tag entry.kind at (omega arith) lawful.1.meets)
+    (none_failed ladder base past at lawful.0 (omega arith))
+
+-- a look adds no sense
+pub had_after_look : (past : List Entry) (tag : Tag) (row : ℕ) (look : Look) →
+    senses_had past look.at ≡ 0 →
+    senses_had (after_look tag row look.slot look.serial look.closed past) look.at ≡ 0
+had_after_look past tag row look none =
+    sum_by-cons (λ (e : Entry). cond (is_sense_of look.at e.kind) 1 0)
+    (entry_of tag (Kind.Look row (Row.Page look.slot look.serial) look.closed)) past
+    ∙ still_none (senses_had past look.at) none
+  where
+    still_none : (n : ℕ) → n ≡ 0 → 0 + n ≡ 0
+    still_none n e = omega arith

@@ -1,0 +1,90 @@
+// The steps of a channel, as whole calls make them.
+ghost use Rattle.std.specs.Prelude.{◌≡◌, ◌≤◌, ◌<◌, IsTrue, length};
+ghost use Rattle.chan_calls.specs.Caller.{CallerView, HasLookRoom, HasStepRoom, IfBound, IsBoundWord, IsOwn, SameCaller, Serves};
+ghost use Rattle.chan_calls.specs.Stepping.{GoesOn, IsStepped, Leaves, MakesAge, MakesLook, MakesTrim, MakesWrite, MaySense, Senses, WritesOn};
+ghost use Rattle.ssd_geo.specs.Coding.{word_bytes_in};
+ghost use Rattle.ssd_geo.specs.Ladder.{asks, has_answer};
+ghost use Rattle.ssd_geo.specs.Ranges.{has_place};
+ghost use Rattle.ssd_geo.specs.Start.{Start};
+ghost use Rattle.ssd_geo.specs.declared.tag.Tag.{Tag};
+
+use chan_state::{AgeAnswer, LookAnswer, SenseAnswer, WriteAnswer};
+use ssd_geo::{Place, StepStop, Tag};
+
+/// A channel as one of its callers steps it. Between two steps of a caller the other callers may make
+/// theirs; what the caller had seen of the history stays.
+pub trait Steps {
+    ghost use Rattle.std.specs.Prelude.{ℕ, List};
+
+    /// What the caller knows.
+    ghost view: { Self → CallerView };
+
+    /// For which starts and contents the channel stands.
+    ghost stands: { Self → Start → List (Tag × List ℕ) → Type 0 };
+
+    /// Looks at a row.
+    fn look(&mut self, tag: Tag, row: u32) -> Result<LookAnswer, StepStop>
+        requires actor { Serves (view self.old) tag.actor }
+        requires row { row < (view self.old).shape.rows }
+        ensures same { SameCaller (view self.old) (view self.new) }
+        ensures made { IsStepped HasLookRoom (MakesLook (view self.old).shape tag row) tag
+            (view self.old) (view self.new) result }
+        ensures goes_on { GoesOn (view self.old) (view self.new)
+            (stands self.old) (stands self.new) };
+
+    /// Senses a page for an open look.
+    fn sense(&mut self, tag: Tag, at: u32, place: Place, level: i16, out: &mut [u8]) -> SenseAnswer
+        requires actor { Serves (view self.old) tag.actor }
+        requires may { MaySense (view self.old) tag at }
+        requires place { IsTrue (has_place (view self.old).shape place) }
+        requires word { length out.old ≡ word_bytes_in (view self.old).shape }
+        requires asked { IfBound (view self.old) at (λ state. state ≡ asks place level) }
+        ensures same { SameCaller (view self.old) (view self.new) }
+        ensures word { length out.new ≡ length out.old }
+        ensures made { Senses (view self.old) (view self.new)
+            (stands self.old) (stands self.new) tag at place level out.new };
+
+    /// Ends a look.
+    fn leave(&mut self, tag: Tag, at: u32)
+        requires actor { Serves (view self.old) tag.actor }
+        requires open { IsOwn (view self.old) tag at }
+        requires answered { IfBound (view self.old) at (λ state. IsTrue (has_answer state)) }
+        ensures same { SameCaller (view self.old) (view self.new) }
+        ensures made { Leaves (view self.old) (view self.new)
+            (stands self.old) (stands self.new) tag at };
+
+    /// Writes a word of a row to the next slot.
+    fn write(&mut self, tag: Tag, row: u32, word: &[u8]) -> Result<WriteAnswer, StepStop>
+        requires actor { Serves (view self.old) tag.actor }
+        requires row { row < (view self.old).shape.rows }
+        requires word { length word.now ≡ word_bytes_in (view self.old).shape }
+        requires of_call { IsBoundWord (view self.old) tag row word.now }
+        ensures same { SameCaller (view self.old) (view self.new) }
+        ensures made { IsStepped HasStepRoom (MakesWrite tag row) tag
+            (view self.old) (view self.new) result }
+        ensures goes_on { WritesOn (view self.old) (view self.new)
+            (stands self.old) (stands self.new) tag row word.now result };
+
+    /// Empties a row.
+    fn trim(&mut self, tag: Tag, row: u32) -> Result<(), StepStop>
+        requires actor { Serves (view self.old) tag.actor }
+        requires row { row < (view self.old).shape.rows }
+        ensures same { SameCaller (view self.old) (view self.new) }
+        ensures made { IsStepped HasStepRoom (MakesTrim tag row) tag
+            (view self.old) (view self.new) result }
+        ensures goes_on { GoesOn (view self.old) (view self.new)
+            (stands self.old) (stands self.new) };
+
+    /// Ages a block of a die.
+    fn age(&mut self, tag: Tag, die: u8, sb: u16, amount: u16) -> Result<AgeAnswer, StepStop>
+        requires actor { Serves (view self.old) tag.actor }
+        requires die { die < (view self.old).shape.dies }
+        requires sb { sb < (view self.old).shape.superblocks }
+        requires amount { 1 ≤ amount }
+        requires high { amount ≤ 16383 }
+        ensures same { SameCaller (view self.old) (view self.new) }
+        ensures made { IsStepped HasStepRoom (MakesAge tag die sb amount) tag
+            (view self.old) (view self.new) result }
+        ensures goes_on { GoesOn (view self.old) (view self.new)
+            (stands self.old) (stands self.new) };
+}
