@@ -2,12 +2,12 @@
 use Rattle.std.proofs.Common.{ℕ, zero, suc, ◌≡◌, ◌+◌, ◌<◌, List, [], ◌∷◌, ◌++◌, length, slice_get, Option, Some, Result, Ok, Err, IfOk, refl, sym, ap, subst, ◌∙◌, arith}
 use Rattle.std.proofs.lemmas.List.{length-append}
 use Rattle.chan_state.specs.ChannelState.{ChannelState, HasBegun, IsBlankStart, blank_start}
+use Rattle.run_laws.specs.StoppedRuns.{history_limit}
 use Rattle.ssd_geo.specs.ImageContents.{IsBaseOf, blank_channel}
 use Rattle.ssd_geo.specs.ImageHead.{Head, IsHead}
 use Rattle.ssd_geo.specs.declared.base.ChannelBase.{ChannelBase}
 use Rattle.ssd_top.proofs.BlankStarts.{blank_is_start}
 use Rattle.ssd_top.specs.Begun.{IsBegun}
-use Rattle.ssd_top.specs.Running.{history_limit}
 
 -- a blank base without weak blocks may begin
 pub may_begin : (head : Head) → IsHead head → head.weak ≡ [] → (channel : ℕ) → channel < head.sizes.channels → (base : ChannelBase) → IsBaseOf head channel (blank_channel head channel) base → IsBlankStart base history_limit

@@ -1,14 +1,16 @@
 -- Before the first call all that is asked of the worker and the channels of a blank drive holds.
-use Rattle.std.proofs.Common.{ℕ, zero, suc, ◌≡◌, ◌+◌, ◌-◌, ◌*◌, ◌%◌, ◌^◌, ◌<◌, ◌≤◌, ◌==◌, ◌&&◌, nat_le, int_lt, int_le, Bool, true, false, List, [], ◌∷◌, length, map, replicate, get_or, slice_get, ℤ, Option, Some, All, is_none, refl, ap, sym, subst, ◌∙◌, ◌<ℤ◌, ◌≤ℤ◌, arith}
+use Rattle.std.proofs.Common.{ℕ, zero, suc, ◌≡◌, ◌+◌, ◌-◌, ◌*◌, ◌%◌, ◌^◌, ◌<◌, ◌≤◌, ◌==◌, ◌&&◌, nat_le, Bool, true, false, not, List, [], ◌∷◌, length, map, replicate, get_or, slice_get, ℤ, Option, Some, All, is_none, refl, ap, sym, subst, ◌∙◌, arith}
 use Rattle.std.specs.List.{range_with_len}
 use Rattle.std.proofs.lemmas.Bool.Decides.{nat_tests}
-use Rattle.std.proofs.lemmas.Int.{ints}
 use Rattle.std.proofs.lemmas.List.FromFn.{length-range_with_len}
 use Rattle.std.proofs.lemmas.List.Elements.{All-nil, All-cons}
 use Rattle.std.proofs.lemmas.Simd.{map-map}
+use Rattle.chan_calls.specs.Workers.{WorkerState, WorksFor}
 use Rattle.chan_state.specs.ChannelState.{ChannelState, blank_start}
 use Rattle.run_laws.specs.Headline.{BeginsAs, contents_in}
 use Rattle.run_laws.specs.ServedPasts.{IsPlainStart}
+use Rattle.run_laws.specs.StoppedRuns.{history_limit}
+use Rattle.run_laws.specs.WrittenRoom.{HasBlankBlocks}
 use Rattle.run_laws.specs.ServedRuns.{AreNumberedAfter, AreStartsOf, HasData, IsServedFrom, IsServedRun}
 use Rattle.run_laws.proofs.BegunRuns.{serving_begins}
 use Rattle.ssd_geo.specs.BaseMatrix.{IsAccepted, MatrixFault}
@@ -19,18 +21,18 @@ use Rattle.ssd_geo.specs.ImageHead.{Head, IsHead, Sizes, is_column_count, matrix
 use Rattle.ssd_geo.specs.Input.{Input}
 use Rattle.ssd_geo.specs.Limits.{cells_of}
 use Rattle.ssd_geo.specs.Start.{BlockCells, Start, blank_cells}
-use Rattle.ssd_geo.specs.declared.cell_law.CellLaw.{CellLaw}
 use Rattle.ssd_geo.specs.declared.entry.Entry.{Entry}
 use Rattle.ssd_geo.specs.declared.row.Row.{Row}
 use Rattle.ssd_geo.specs.declared.trace.Trace.{Trace}
 use Rattle.ssd_geo.proofs.ContentsLaws.{equal_is}
 use Rattle.ssd_geo.proofs.HeadLaws.{both_of}
 use Rattle.ssd_top.specs.Begun.{AreBegun, IsBegun, IsWorkerOf}
-use Rattle.ssd_top.specs.Forms.{blank_input, is_served_drive, tells_apart}
-use Rattle.ssd_top.specs.Running.{FitsDrive, IsChannelOf, IsRunning, history_limit, pasts_of}
-use Rattle.ssd_top.specs.Workers.{WorkerState, WorksFor}
+use Rattle.ssd_top.specs.Forms.{are_served, blank_input, is_served, is_served_drive}
+use Rattle.ssd_top.specs.RoomForTrace.{fits_drive}
+use Rattle.ssd_top.specs.Running.{FitsDrive, IsChannelOf, IsRunning, pasts_of}
+use Rattle.ssd_top.proofs.BlankBlocks.{has_blank_blocks}
 use Rattle.ssd_top.proofs.SameSizes.{same_shape}
-use Rattle.ssd_top.proofs.WordsReadBack.{reads_back}
+use Rattle.ssd_top.proofs.WordsGiveData.{words_give_data}
 
 -- channels from this number on have begun
 abbrev AreBegunFrom : Head → ℕ → List ChannelState → Type 0
@@ -120,13 +122,6 @@ no_pasts : (head : Head) (number : ℕ) (channels : List ChannelState) (begun : 
 no_pasts head number [] begun = refl
 no_pasts head number (channel ∷ channels) begun = rw (begun.0.has_begun.no_entry, ← no_pasts head (number + 1) channels begun.1) refl
 
-no_entries : (head : Head) (number : ℕ) (channels : List ChannelState) → AreBegunFrom head number channels
-    → All (λ channel. length channel.past ≤ 0) channels
-no_entries head number [] begun = All-nil (λ (channel : ChannelState). length channel.past ≤ 0)
-no_entries head number (channel ∷ channels) begun =
-    All-cons (λ (channel : ChannelState). length channel.past ≤ 0) channel channels
-    (omega (arith, ap length begun.0.has_begun.no_entry)) (no_entries head (number + 1) channels begun.1)
-
 -- a number that passed a test is in its range
 pub range_is : (low high n : ℕ) → is_within low high n ≡ true → (low ≤ n) × (n ≤ high)
 range_is low high n e =
@@ -164,29 +159,9 @@ head_accepted head ok =
       faultless = ap (λ (fault : Option MatrixFault). is_none fault) ok.faultless;
     }
 
--- the first read level of a drive that is served tells its cells apart
-first_level : (law : CellLaw) (levels : List ℤ) (level : ℤ) → tells_apart law levels ≡ true → slice_get levels 0 ≡ Some level
-    → (law.erased <ℤ level) × (level ≤ℤ law.programmed)
-first_level law [] level e is_first = absurd (cc)
-first_level law (first ∷ levels) level e is_first =
-    let same : first ≡ level = cc in
-    let both : (int_lt law.erased first ≡ true) × (int_le first law.programmed ≡ true) = both_of (int_lt law.erased first) (int_le first law.programmed) e in
-    let low : law.erased <ℤ first = omega (arith, ints, both.0) in
-    let high : first ≤ℤ law.programmed = omega (arith, ints, both.1) in
-    (subst (λ n. law.erased <ℤ n) same low, subst (λ n. n ≤ℤ law.programmed) same high)
-
--- a drive that is served
-module _ (head : Head) (ok : IsHead head) (is_served : is_served_drive head ≡ true) (worker : WorkerState) (is_worker : IsWorkerOf head worker) where
-  parts : ((head.law.spread == 0 && length head.weak == 0) ≡ true) × (tells_apart head.law head.read_levels ≡ true)
-  parts = both_of (head.law.spread == 0 && length head.weak == 0) (tells_apart head.law head.read_levels) is_served
-
-  no_spread : head.law.spread ≡ 0
-  no_spread = equal_is head.law.spread 0 (both_of (head.law.spread == 0) (length head.weak == 0) parts.0).0
-
-  told_apart : (head.law.erased <ℤ worker.level) × (worker.level ≤ℤ head.law.programmed)
-  told_apart = first_level head.law head.read_levels worker.level parts.1 is_worker.level_is
-
-  -- its channels begin without pages, and their words are read from the first sense
+-- a worker of a drive
+module _ (head : Head) (ok : IsHead head) (worker : WorkerState) (is_worker : IsWorkerOf head worker) where
+  -- its channels begin without pages, and their words give their data
   is_plain : (number : ℕ) (channel : ChannelState) (begun : IsBegun head number channel) → IsPlainStart (start_of begun)
   is_plain number channel begun =
       let same_matrix : Coding.matrix_of begun.base ≡ matrix_of head = λ i.
@@ -198,12 +173,7 @@ module _ (head : Head) (ok : IsHead head) (is_served : is_served_drive head ≡ 
       } in
       record {
         no_page = begun.is_base.rows ∙ ap (λ (sizes : Sizes). replicate sizes.rows Row.Empty) (sym begun.is_base.shape);
-        reads_back =
-            reads_back begun.base (subst IsAccepted (sym same_matrix) (head_accepted head ok)) worker.level
-            (ap (λ (levels : List ℤ). slice_get levels 0) begun.is_base.read_levels ∙ is_worker.level_is)
-            (ap (λ (law : CellLaw). law.spread) begun.is_base.law ∙ no_spread)
-            (subst (λ (law : CellLaw). law.erased <ℤ worker.level) (sym begun.is_base.law) told_apart.0)
-            (subst (λ (law : CellLaw). worker.level ≤ℤ law.programmed) (sym begun.is_base.law) told_apart.1);
+        words_give_data = words_give_data begun.base (subst IsAccepted (sym same_matrix) (head_accepted head ok));
       }
 
   -- and the worker works for them
@@ -220,7 +190,9 @@ module _ (head : Head) (ok : IsHead head) (is_served : is_served_drive head ≡ 
         shape_is = same_shape worker.shape begun.base.shape (is_worker.sizes_are ∙ sym begun.is_base.shape);
         session_is = is_worker.session_is ∙ sym begun.is_base.session;
         code_is = is_worker.code_is ∙ same_code;
-        level_is = ap (λ (levels : List ℤ). slice_get levels 0) begun.is_base.read_levels ∙ is_worker.level_is;
+        iterations_are = is_worker.iterations_are ∙ sym begun.is_base.iterations;
+        levels_are = is_worker.levels_are ∙ sym begun.is_base.read_levels;
+        step_is = is_worker.step_is ∙ sym begun.is_base.step;
       }
 
   is_channel : (input : Input) (number : ℕ) (channel : ChannelState) (begun : IsBegun head number channel)
@@ -244,22 +216,46 @@ each_channel P head holds number (first ∷ channels) begun zero start channel h
 each_channel P head holds number (first ∷ channels) begun (suc place) start channel has_start has_channel =
     each_channel P head holds (number + 1) channels begun.1 place start channel has_start has_channel
 
-pub running_begins : (head : Head) → IsHead head → is_served_drive head ≡ true → (trace : Trace) (worker : WorkerState) → IsWorkerOf head worker
-    → (channels : List ChannelState) → AreBegun head channels → AreNumberedAfter trace.actors [] trace.calls
-    → All (λ call. HasData head.sizes.bytes call.verb) trace.calls → All (λ call. FitsDrive worker (length channels) call.verb) trace.calls
+-- an input that is served: its drive, its calls and their room
+pub record HasServedForm (input : Input) : Type 0 where
+  pub drive : is_served_drive input.head ≡ true
+  pub calls : are_served input.calls.calls ≡ true
+  pub room : fits_drive input ≡ true
+
+pub served_form : (input : Input) → is_served input ≡ true → HasServedForm input
+served_form input served =
+    let room = both_of (is_served_drive input.head && are_served input.calls.calls) (fits_drive input) served in
+    let both = both_of (is_served_drive input.head) (are_served input.calls.calls) room.0 in
+    record { drive = both.0; calls = both.1; room = room.1 }
+
+none_in : {A : Type 0} (xs : List A) → length xs ≡ 0 → xs ≡ []
+none_in [] e = refl
+none_in (x ∷ xs) e = absurd (omega arith)
+
+-- its drive has no weak block
+pub none_weak : (input : Input) → is_served input ≡ true → input.head.weak ≡ []
+none_weak input served =
+    none_in input.head.weak
+    (equal_is (length input.head.weak) 0 (both_of (not input.head.full) (length input.head.weak == 0) (served_form input served).drive).1)
+
+pub running_begins : (head : Head) → IsHead head → (trace : Trace) → is_served (blank_input head trace) ≡ true
+    → (worker : WorkerState) → IsWorkerOf head worker → (channels : List ChannelState) → AreBegun head channels
+    → AreNumberedAfter trace.actors [] trace.calls → All (λ call. HasData head.sizes.bytes call.verb) trace.calls
+    → All (λ call. FitsDrive worker.shape (length channels) call.verb) trace.calls
     → IsRunning (blank_input head trace) worker channels [] (replicate trace.actors [])
-running_begins head ok is_served trace worker is_worker channels are numbered have_data fits =
+running_begins head ok trace served worker is_worker channels are numbered have_data fits =
     let begun : AreBegunFrom head 0 channels = are_begun head channels are in
     let starts : List Start = starts_of head 0 channels begun in
     let as_many : length starts ≡ length channels = as_many_starts head 0 channels begun in
     let some : 0 < length starts = omega (arith, as_many, are.as_many, (range_is 1 8 head.sizes.channels ok.channels).0) in
+    let form = served_form (blank_input head trace) served in
     let from : IsServedFrom (blank_input head trace) starts =
     record {
       some_channel = some;
       are_starts =
           subst (λ count. AreStartsOf head 0 (map (blank_channel head) (range_with_len 0 count)) starts) are.as_many
           (are_starts head 0 channels begun);
-      are_plain = each_start IsPlainStart head (is_plain head ok is_served worker is_worker) 0 channels begun;
+      are_plain = each_start IsPlainStart head (is_plain head ok worker is_worker) 0 channels begun;
       same_bytes =
           each_start (λ start. start.base.shape.bytes ≡ head.sizes.bytes) head
           (λ number channel of. ap (λ (sizes : Sizes). sizes.bytes) of.is_base.shape) 0 channels begun;
@@ -272,8 +268,13 @@ running_begins head ok is_served trace worker is_worker channels are numbered ha
           subst (IsServedRun (blank_input head trace) starts [] (replicate trace.actors [])) (no_pasts head 0 channels begun)
           (serving_begins (blank_input head trace) starts from);
       are_channels =
-          each_channel (IsChannelOf (blank_input head trace) worker) head (is_channel head ok is_served worker is_worker (blank_input head trace)) 0 channels begun;
+          each_channel (IsChannelOf (blank_input head trace) worker) head (is_channel head ok worker is_worker (blank_input head trace)) 0
+          channels begun;
       few_channels = omega (arith, are.as_many, (range_is 1 8 head.sizes.channels ok.channels).1);
       fits = fits;
-      few_entries = no_entries head 0 channels begun;
+      blank =
+          each_start (λ start. HasBlankBlocks start.base) head
+          (λ number channel of. has_blank_blocks head number of.base of.is_base) 0 channels begun;
+      has_room = form.room;
+      all_served = form.calls;
     }

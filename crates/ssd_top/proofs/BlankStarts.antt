@@ -42,7 +42,7 @@ AreBlankCells start =
     start.cells ≡ replicate start.base.shape.dies (replicate start.base.shape.superblocks blank_cells)
 
 -- the superblocks of a blank base
-blocks_of_base : (head : Head) (channel : ℕ) (base : ChannelBase) → IsBlankBase head channel base →
+pub blocks_of_base : (head : Head) (channel : ℕ) (base : ChannelBase) → IsBlankBase head channel base →
     base.blocks ≡ map (blank_block_of head channel) (range_with_len 0 base.shape.superblocks)
 blocks_of_base head channel base b =
     b.blocks ∙ blocks_are head channel
@@ -55,7 +55,7 @@ block_is head channel base sb b below =
     ap (λ (blocks : List BlockBase). block_at blocks sb) (blocks_of_base head channel base b)
     ∙ get_or-map-range_with_len (blank_block_of head channel) 0 base.shape.superblocks sb sb blank_block below (omega arith)
 
-blocks_sound : (head : Head) (channel : ℕ) (base : ChannelBase) → IsBlankBase head channel base →
+pub blocks_sound : (head : Head) (channel : ℕ) (base : ChannelBase) → IsBlankBase head channel base →
     AreSound (slots_in base) base.blocks
 blocks_sound head channel base b =
     let all : List ℕ = range_with_len 0 base.shape.superblocks in

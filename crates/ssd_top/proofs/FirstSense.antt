@@ -1,5 +1,4 @@
--- A sense that is a codeword is decoded to itself before the first iteration, and where the word that is found has the
--- page's head, the first sense of a look decides its ladder.
+-- A sense that is a codeword is decoded to itself before the first iteration.
 use Rattle.std.proofs.Common.{ℕ, suc, ◌≡◌, ◌+◌, ◌*◌, Bool, true, false, List, ◌∷◌, length, Some, find, option_map, refl, ap, ◌∙◌, arith}
 use Rattle.std.specs.Prelude.{◌==◌}
 use Rattle.std.specs.List.{range_with_len}
@@ -9,7 +8,7 @@ use Rattle.ssd_geo.specs.Codewords.{IsCodeword, failed_checks, is_codeword, word
 use Rattle.ssd_geo.specs.Decoding.{decided, decided_after, decode}
 use Rattle.ssd_geo.specs.RowRule.{is_negative}
 use Rattle.ssd_geo.specs.Senses.{hard_value, hard_values}
-use Rattle.ssd_top.proofs.AcceptedWords.{failed_checks-codeword}
+use Rattle.ssd_top.proofs.CheckedWords.{failed_checks-codeword}
 use Rattle.ssd_top.proofs.NoiselessCells.{map_through}
 
 hard_is : (bit : Bool) → is_negative (hard_value bit) ≡ bit

@@ -7,9 +7,10 @@ use Rattle.std.proofs.lemmas.List.{length-append, length-replicate, length-take-
 use Rattle.std.specs.Int.{w64, to_le_bytes}
 use Rattle.std.specs.List.{range_with_len}
 use Rattle.std.specs.Prelude.{All}
-use Rattle.ssd_geo.specs.ImageHead.{Sizes}
+use Rattle.ssd_geo.specs.ImageHead.{Sizes, sizes_of}
 use Rattle.ssd_geo.specs.Noise.{noise_word}
 use Rattle.ssd_geo.specs.TraceText.{content_bytes}
+use Rattle.ssd_geo.specs.declared.shape.Shape.{Shape}
 use Rattle.ssd_geo.specs.declared.trace.Content.{Content}
 use Rattle.ssd_geo.specs.declared.trace.Content.TheVariants.{Listed, Words}
 use Rattle.ssd_geo.specs.declared.trace.TraceCall.{TraceCall}
@@ -21,7 +22,6 @@ use Rattle.run_laws.specs.ServedRuns.{HasData}
 use Rattle.trace_text.specs.NumberedCalls.{AreNumberedAfter, IsContentOf, IsVerbOf}
 use Rattle.ssd_top.specs.Running.{FitsDrive}
 use Rattle.ssd_top.specs.Workers as Workers
-use Rattle.ssd_top.specs.Workers.{WorkerState}
 use Rattle.ssd_top.proofs.SmallBytes.{AreSmall, append_small, padded_small}
 
 -- the bytes of so many words of a generator
@@ -90,28 +90,40 @@ have_data sizes actors before (call ∷ calls) numbered =
     All-cons (λ call. HasData sizes.bytes call.verb) call calls (has_data sizes call.verb numbered.0.verb)
     (have_data sizes actors (before ++ call ∷ []) calls numbered.1)
 
-content_fits : (sizes : Sizes) (worker : WorkerState) → worker.shape.bytes ≡ sizes.bytes → (content : Content) → IsContentOf sizes.bytes content → Workers.IsContentOf worker.shape.bytes content
-content_fits sizes worker bytes (Listed list) fits = subst (λ (n : ℕ). length list ≤ n) (sym bytes) fits.0
-content_fits sizes worker bytes (Words number) fits = tt
+content_fits : (sizes : Sizes) (shape : Shape) → sizes_of shape ≡ sizes → (content : Content) → IsContentOf sizes.bytes content
+    → Workers.IsContentOf shape.bytes content
+content_fits sizes shape same (Listed list) fits = subst (λ (s : Sizes). length list ≤ s.bytes) (sym same) fits.0
+content_fits sizes shape same (Words number) fits = tt
 
 -- a page of a drive with C channels of so many rows has its row on its channel
 row_within : (channels rows page : ℕ) → 1 ≤ channels → page < channels * rows → page / channels < rows
 row_within channels rows page some below =
     (div-lt_iff_lt-mul {k = channels} {x = page} {y = rows} some).1 (subst (λ (n : ℕ). page < n) (mul_comm channels rows) below)
 
-fits_drive : (sizes : Sizes) (worker : WorkerState) → 1 ≤ sizes.channels → worker.shape.rows ≡ sizes.rows → worker.shape.bytes ≡ sizes.bytes → (verb : Verb) → IsVerbOf sizes verb → FitsDrive worker sizes.channels verb
-fits_drive sizes worker some rows bytes (Write page content) fits =
-    (subst (λ (n : ℕ). page / sizes.channels < n) (sym rows) (row_within sizes.channels sizes.rows page some fits.0), content_fits sizes worker bytes content fits.1)
-fits_drive sizes worker some rows bytes (Read page) fits = subst (λ (n : ℕ). page / sizes.channels < n) (sym rows) (row_within sizes.channels sizes.rows page some fits)
-fits_drive sizes worker some rows bytes (Trim page) fits = subst (λ (n : ℕ). page / sizes.channels < n) (sym rows) (row_within sizes.channels sizes.rows page some fits)
-fits_drive sizes worker some rows bytes (Refresh page) fits = tt
-fits_drive sizes worker some rows bytes (Collect channel) fits = tt
-fits_drive sizes worker some rows bytes (Drain count) fits = tt
-fits_drive sizes worker some rows bytes (Age channel die sb amount) fits = tt
+module _ (sizes : Sizes) (shape : Shape) (same : sizes_of shape ≡ sizes) (some : 1 ≤ sizes.channels) where
+  row_fits : (page : ℕ) → page < sizes.channels * sizes.rows → page / sizes.channels < shape.rows
+  row_fits page below =
+      subst (λ (s : Sizes). page / sizes.channels < s.rows) (sym same) (row_within sizes.channels sizes.rows page some below)
 
--- the calls fit the drive
-pub fit_drive : (sizes : Sizes) (worker : WorkerState) → 1 ≤ sizes.channels → worker.shape.rows ≡ sizes.rows → worker.shape.bytes ≡ sizes.bytes → (actors : ℕ) (before calls : List TraceCall) → AreNumberedAfter sizes actors before calls → All (λ call. FitsDrive worker sizes.channels call.verb) calls
-fit_drive sizes worker some rows bytes actors before [] numbered = All-nil (λ call. FitsDrive worker sizes.channels call.verb)
-fit_drive sizes worker some rows bytes actors before (call ∷ calls) numbered =
-    All-cons (λ call. FitsDrive worker sizes.channels call.verb) call calls (fits_drive sizes worker some rows bytes call.verb numbered.0.verb)
-    (fit_drive sizes worker some rows bytes actors (before ++ call ∷ []) calls numbered.1)
+  fits_drive : (verb : Verb) → IsVerbOf sizes verb → FitsDrive shape sizes.channels verb
+  fits_drive (Write page content) fits = (row_fits page fits.0, content_fits sizes shape same content fits.1)
+  fits_drive (Read page) fits = row_fits page fits
+  fits_drive (Trim page) fits = row_fits page fits
+  fits_drive (Refresh page) fits = tt
+  fits_drive (Collect channel) fits = tt
+  fits_drive (Drain count) fits = tt
+  fits_drive (Age channel die sb amount) fits = (
+    fits.0,
+    subst (λ (s : Sizes). die < s.dies) (sym same) fits.1,
+    subst (λ (s : Sizes). sb < s.superblocks) (sym same) fits.2,
+    fits.3,
+    fits.4,
+  )
+
+  -- the calls fit the drive
+  pub fit_drive : (actors : ℕ) (before calls : List TraceCall) → AreNumberedAfter sizes actors before calls
+      → All (λ call. FitsDrive shape sizes.channels call.verb) calls
+  fit_drive actors before [] numbered = All-nil (λ call. FitsDrive shape sizes.channels call.verb)
+  fit_drive actors before (call ∷ calls) numbered =
+      All-cons (λ call. FitsDrive shape sizes.channels call.verb) call calls (fits_drive call.verb numbered.0.verb)
+      (fit_drive actors (before ++ call ∷ []) calls numbered.1)

@@ -1,7 +1,7 @@
 -- What comes of an input that was read: a stop is the first fault of its bytes, or has another cause, and an input that was
 -- read to its end is served or not by its head and its calls.
-use Rattle.std.proofs.Common.{ℕ, ◌≡◌, Bool, true, false, List, [], Option, Some, None, Ok, Err, refl, sym}
-use Rattle.std.specs.Prelude.{IfSome, ◌&&◌}
+use Rattle.std.proofs.Common.{ℕ, ◌≡◌, true, false, List, [], Option, Some, None, Ok, Err}
+use Rattle.std.specs.Prelude.{IfSome}
 use Rattle.image_file.specs.Gives as Image
 use Rattle.image_file.specs.HeadGiven.{ReadsHead}
 use Rattle.image_file.specs.declared.stop.ImageFault.{ImageFault}
@@ -15,8 +15,7 @@ use Rattle.trace_text.specs.Answers.{named_fault as trace_named_fault}
 use Rattle.trace_text.specs.ReadTraces.{ReadsTrace}
 use Rattle.trace_text.specs.declared.fault.TraceFault.{TraceFault}
 use Rattle.ssd_top.proofs.BlankInputs as Blank
-use Rattle.ssd_top.specs.Forms.{are_served, blank_input, has_contents, is_other, is_served_drive, lacks_room}
-use Rattle.ssd_top.specs.Running.{MeetsNoRoom}
+use Rattle.ssd_top.specs.Forms.{blank_input, has_contents, is_other, is_served}
 use Rattle.ssd_top.specs.Serving.{IsCausedByTold, status_of_image, status_of_trace}
 use Rattle.ssd_top.specs.declared.status.Status.TheVariants.{NotBuilt}
 
@@ -58,22 +57,8 @@ read_to_end (Some bytes) (Some rest) after head trace reads blank traced = recor
 }
 
 -- one that isn't served isn't built
-pub other_caused : (before : Option (List ℕ)) (head : ImageHead) (trace : Trace) → IfSome before (λ bytes. read_input bytes ≡ Ok (blank_input (head_of head) trace)) → is_served_drive (head_of head) && are_served trace.calls ≡ false → IsCausedByTold before NotBuilt
+pub other_caused : (before : Option (List ℕ)) (head : ImageHead) (trace : Trace)
+    → IfSome before (λ bytes. read_input bytes ≡ Ok (blank_input (head_of head) trace)) → is_served (blank_input (head_of head) trace) ≡ false
+    → IsCausedByTold before NotBuilt
 other_caused None head trace is_input other = tt
 other_caused (Some bytes) head trace is_input other = is_other is_input other
-
--- nor is one in which a write finds no room
-pub room_caused : (before : Option (List ℕ)) (head : ImageHead) (trace : Trace) → IfSome before (λ bytes. read_input bytes ≡ Ok (blank_input (head_of head) trace)) → is_served_drive (head_of head) && are_served trace.calls ≡ true → MeetsNoRoom (blank_input (head_of head) trace) → IsCausedByTold before NotBuilt
-room_caused None head trace is_input served meets = tt
-room_caused (Some bytes) head trace is_input served meets = lacks_room is_input served meets
-
--- a drive and calls that are both served, and where one of them isn't
-pub both_served : (a b r s : Bool) → r ≡ a → s ≡ b → r ≡ true → s ≡ true → a && b ≡ true
-both_served a b r s of_a of_b holds_a holds_b = rw (sym of_a, sym of_b, holds_a, holds_b) refl
-
-pub not_drive : (a b r : Bool) → r ≡ a → r ≡ false → a && b ≡ false
-not_drive a b r of_a fails = rw (sym of_a, fails) refl
-
-pub not_verbs : (a b s : Bool) → s ≡ b → s ≡ false → a && b ≡ false
-not_verbs true b s of_b fails = rw (sym of_b, fails) refl
-not_verbs false b s of_b fails = refl

@@ -1,144 +1,341 @@
--- A run that was served so far: what holds of the channel of its next call, and that the run goes on after that call.
-use Rattle.std.proofs.Common.{ℕ, zero, suc, ◌≡◌, ◌+◌, ◌*◌, ◌<◌, ◌≤◌, ◌^◌, List, [], ◌∷◌, ◌++◌, length, Some, refl, sym, ap, subst, ◌∙◌, inl, inr, arith, length-set, length-append}
-use Rattle.std.specs.Prelude.{All, slice_get, slice_set, option_map}
+-- A run that was served so far: what holds of the channel of its next call, that the run goes on
+-- after that call, and that it stops where the channel's history has no room.
+use Rattle.std.proofs.Common.{ℕ, zero, suc, ◌≡◌, ◌+◌, ◌%◌, ◌<◌, ◌≤◌, ◌==◌, nat_lt, true, List, [], ◌∷◌, ◌++◌, length, Some, refl, sym, ap, subst, ◌∙◌, inl, inr, arith, length-set}
+use Rattle.std.specs.Prelude.{All, Bool, IsTrue, slice_get, slice_set, option_map}
+use Rattle.std.proofs.lemmas.Bool.Decides.{nat_tests}
 use Rattle.std.proofs.lemmas.List.{length-map, map-set}
-use Rattle.std.proofs.lemmas.List.Elements.{All-set, All-weaker}
 use Rattle.std.proofs.lemmas.Option.{slice_get-map, slice_get_within}
+use Rattle.chan_calls.specs.Workers.{WorkerState}
 use Rattle.chan_state.specs.ChannelState.{ChannelState, StandsFor}
-use Rattle.chan_state.specs.Steps.{HasLookRoom, HasStepRoom}
 use Rattle.run_laws.specs.Headline.{contents_in}
 use Rattle.run_laws.specs.ServedCalls.{IsServedBy}
-use Rattle.run_laws.specs.ServedPasts.{IsPlainPast}
-use Rattle.run_laws.specs.ServedRuns.{IsServedRun, ServesNext, channel_of, runs_with, with_reply}
-use Rattle.run_laws.proofs.ChangedRuns.{all_at, get_set, get_set_other, one_or_other, run_at}
-use Rattle.run_laws.proofs.ReadPages.{pages_are_read}
+use Rattle.run_laws.specs.ServedRuns.{AreNumberedAfter, AreStartsOf, IsServedRun, ServesNext, channel_of, with_reply}
+use Rattle.run_laws.specs.StoppedRuns.{IsPlainVerb, WouldFindRoom, room_wanted}
+use Rattle.run_laws.specs.WrittenRoom.{HasBlankBlocks, is_write_to, pages_that_fit, writes_to}
+use Rattle.run_laws.proofs.ChangedRuns.{all_at, get_set, get_set_other, one_or_other}
+use Rattle.run_laws.proofs.NumberedCalls.{tags_give_data}
 use Rattle.run_laws.proofs.ServedNext.{serves_one_more}
-use Rattle.ssd_geo.specs.CallsInOrder.{ChannelRun}
+use Rattle.run_laws.proofs.ServedRoom.{served_runs_have_room}
+use Rattle.run_laws.proofs.UsedRoom as Lists
 use Rattle.ssd_geo.specs.History.{open_looks}
 use Rattle.ssd_geo.specs.Input.{Input}
-use Rattle.ssd_geo.specs.Start.{Start}
+use Rattle.ssd_geo.specs.Room.{has_host_room}
+use Rattle.ssd_geo.specs.Start.{Start, data_of}
+use Rattle.ssd_geo.specs.TraceText.{content_bytes, contents_of}
 use Rattle.ssd_geo.specs.declared.entry.Entry.{Entry}
 use Rattle.ssd_geo.specs.declared.reply.Reply.{Reply}
+use Rattle.ssd_geo.specs.declared.shape.Shape.{Shape}
+use Rattle.ssd_geo.specs.declared.trace.Content.{Content}
 use Rattle.ssd_geo.specs.declared.trace.TraceCall.{TraceCall}
-use Rattle.ssd_top.specs.Running.{FitsDrive, IsChannelOf, IsRunning, pasts_of}
-use Rattle.ssd_top.specs.Workers.{IsBetweenCalls, WorkerState}
+use Rattle.ssd_geo.specs.declared.trace.Verb.{Verb}
+use Rattle.ssd_top.specs.ChannelCalls.{HasOwnData, MayServe, IsRefusedOn, IsServedOn}
+use Rattle.ssd_top.specs.Forms.{are_served, is_served_verb}
+use Rattle.ssd_top.specs.Running.{FitsDrive, HasStopped, IsChannelOf, IsRunning, pasts_of}
+use Rattle.ssd_top.proofs.FittingCalls.{write_fits}
+use Rattle.ssd_top.proofs.InputChannels as Inputs
 
 -- the past of a channel
 abbrev past_in : ChannelState → List Entry
 past_in channel = channel.past
 
--- the calls with one more are one more
-pub one_more : (done : List TraceCall) (call : TraceCall) → length (done ++ call ∷ []) ≡ length done + 1
-one_more done call = length-append done (call ∷ [])
-
 -- a list has an item at a place within
-pub there_at : {X : Type 0} (xs : List X) (k : ℕ) → k < length xs → (x : X) × (slice_get xs k ≡ Some x)
+there_at : {X : Type 0} (xs : List X) (k : ℕ) → k < length xs → (x : X) × (slice_get xs k ≡ Some x)
 there_at [] k low = absurd (omega arith)
 there_at (x ∷ xs) zero low = (x, refl)
 there_at (x ∷ xs) (suc k) low = there_at xs k (omega arith)
 
-module _ (input : Input) (worker : WorkerState) (channels : List ChannelState) (done : List TraceCall) (replies : List (List Reply)) (running : IsRunning input worker channels done replies) where
+-- a list set to what it has is the same
+set_same : {X : Type 0} (xs : List X) (k : ℕ) (x : X) → slice_get xs k ≡ Some x →
+    slice_set xs k x ≡ xs
+set_same [] k x is = absurd (cc)
+set_same {X} (y ∷ xs) zero x is =
+    let same : y ≡ x = cc in ap {B = List X} (λ (first : X). first ∷ xs) (sym same)
+set_same {X} (y ∷ xs) (suc k) x is =
+    ap {B = List X} (λ (rest : List X). y ∷ rest) (set_same xs k x is)
+
+-- the call after some stands at their number
+call_there : (done : List TraceCall) (call : TraceCall) (rest : List TraceCall) →
+    slice_get (done ++ call ∷ rest) (length done) ≡ Some call
+call_there [] call rest = refl
+call_there (first ∷ done) call rest = call_there done call rest
+
+-- a verb that is served is one of those that the laws of runs speak of
+plain_of : (verb : Verb) → is_served_verb verb ≡ true → IsPlainVerb verb
+plain_of (Verb.Write page content) is = tt
+plain_of (Verb.Read page) is = tt
+plain_of (Verb.Trim page) is = tt
+plain_of (Verb.Age channel die sb amount) is = tt
+plain_of (Verb.Refresh page) is = absurd (cc)
+plain_of (Verb.Collect channel) is = absurd (cc)
+plain_of (Verb.Drain count) is = absurd (cc)
+
+all_plain : (calls : List TraceCall) → IsTrue (are_served calls) →
+    All (λ call. IsPlainVerb call.verb) calls
+all_plain calls served k call low =
+    plain_of _ (Lists.all_at (λ (other : TraceCall). is_served_verb other.verb) calls k call served
+    low)
+
+-- a page's channel is its own
+own_channel : (channels page : ℕ) → (page % channels == page % channels) ≡ true
+own_channel channels page = itself (page % channels)
+  where
+    itself : (n : ℕ) → (n == n) ≡ true
+    itself n = grind (arith, nat_tests)
+
+-- the channel of a verb that fits the drive is one of its channels
+channel_low : (shape : Shape) (n k : ℕ) (verb : Verb) → 0 < n → channel_of n verb ≡ Some k →
+    FitsDrive shape n verb → k < n
+channel_low shape n k (Verb.Write page content) some on fits =
+    let own : page % n ≡ k = cc in omega (arith, own)
+channel_low shape n k (Verb.Read page) some on fits =
+    let own : page % n ≡ k = cc in omega (arith, own)
+channel_low shape n k (Verb.Trim page) some on fits =
+    let own : page % n ≡ k = cc in omega (arith, own)
+channel_low shape n k (Verb.Age channel die sb amount) some on fits =
+    let own : channel ≡ k = cc in
+    let low : channel < n = fits.0 in
+    omega (arith, own, low)
+channel_low shape n k (Verb.Refresh page) some on fits = absurd (cc)
+channel_low shape n k (Verb.Collect channel) some on fits = absurd (cc)
+channel_low shape n k (Verb.Drain count) some on fits = absurd (cc)
+
+module _ (input : Input) (worker : WorkerState) (channels : List ChannelState)
+    (done : List TraceCall) (replies : List (List Reply))
+    (running : IsRunning input worker channels done replies) where
   -- there are as many starts as channels
-  pub many_starts : length running.starts ≡ length channels
+  many_starts : length running.starts ≡ length channels
   many_starts = sym running.served.as_many ∙ length-map channels past_in
 
   pub some_channel : 0 < length channels
   some_channel = subst (λ n. 0 < n) many_starts running.served.is_served_from.some_channel
 
-  -- the start of a channel, and the channel's past
-  pub start_at : (k : ℕ) (old : ChannelState) → slice_get channels k ≡ Some old → (start : Start) × (slice_get running.starts k ≡ Some start)
-  start_at k old is = there_at running.starts k (subst (λ n. k < n) (sym many_starts) (slice_get_within channels k old is))
+  -- the next call, on its channel
+  module _ (call : TraceCall) (rest : List TraceCall)
+      (split : input.calls.calls ≡ done ++ call ∷ rest) where
+    pub fits : FitsDrive worker.shape (length channels) call.verb
+    fits =
+        all_at (λ (other : TraceCall). FitsDrive worker.shape (length channels) other.verb)
+        input.calls.calls (length done) call running.fits
+        (subst (λ calls. slice_get calls (length done) ≡ Some call) (sym split)
+        (call_there done call rest))
 
-  pub past_at : (k : ℕ) (old : ChannelState) → slice_get channels k ≡ Some old → slice_get (pasts_of channels) k ≡ Some old.past
-  past_at k old is = slice_get-map past_in channels k ∙ ap (option_map past_in) is
+    pub low : (k : ℕ) → channel_of (length channels) call.verb ≡ Some k → k < length channels
+    low k on = channel_low worker.shape (length channels) k call.verb some_channel on fits
 
-  pub channel_is : (k : ℕ) (old : ChannelState) (is : slice_get channels k ≡ Some old) → IsChannelOf input worker (start_at k old is).0 old
-  channel_is k old is = running.are_channels k (start_at k old is).0 old (start_at k old is).1 is
+    module _ (k : ℕ) (old : ChannelState) (is : slice_get channels k ≡ Some old)
+        (on : channel_of (length channels) call.verb ≡ Some k) where
+      there : (start : Start) × (slice_get running.starts k ≡ Some start)
+      there =
+          there_at running.starts k (subst (λ n. k < n) (sym many_starts)
+          (slice_get_within channels k old is))
 
-  -- a channel is between two calls
-  pub between : (k : ℕ) (old : ChannelState) (is : slice_get channels k ≡ Some old) → IsBetweenCalls worker old (start_at k old is).0 (contents_in input)
-  between k old is =
-      let start : Start = (start_at k old is).0 in
-      record {
-        works = (channel_is k old is).works;
-        stands = (channel_is k old is).stands;
-        plain =
-            all_at (λ (run : ChannelRun). IsPlainPast run.start (contents_in input) run.past) (runs_with running.starts (pasts_of channels)) k
-            (record { start = start; past = old.past }) running.served.are_plain
-            (run_at running.starts (pasts_of channels) k start old.past (start_at k old is).1 (past_at k old is));
-        none_open = all_at (λ past. open_looks past ≡ []) (pasts_of channels) k old.past running.served.none_open (past_at k old is);
+      abbrev start : Start
+      start = there.0
+
+      has_past : slice_get (pasts_of channels) k ≡ Some old.past
+      has_past = slice_get-map past_in channels k ∙ ap (option_map past_in) is
+
+      of_run : IsChannelOf input worker start old
+      of_run = running.are_channels k start old there.1 is
+
+      on_start : channel_of (length running.starts) call.verb ≡ Some k
+      on_start = subst (λ n. channel_of n call.verb ≡ Some k) (sym many_starts) on
+
+      no_look : length old.looks ≡ 0
+      no_look =
+          ap length (of_run.stands.looks_are ∙ all_at (λ past. open_looks past ≡ [])
+          (pasts_of channels) k old.past running.served.none_open has_past)
+
+      -- the data of a write are those of its tag
+      own_write : (page : ℕ) (content : Content) → call.verb ≡ Verb.Write page content →
+          data_of (contents_in input) call.tag ≡ content_bytes worker.shape.bytes content
+      own_write page content verb =
+          let same : call ≡ record { tag = call.tag; verb = Verb.Write page content } =
+          λ i. record { tag = call.tag; verb = verb i } in
+          let calls : input.calls.calls ≡ done ++ record
+          { tag = call.tag; verb = Verb.Write page content } ∷ rest =
+          split ∙ ap (λ (other : TraceCall). done ++ other ∷ rest) same in
+          let of_start : start.base.shape.bytes ≡ input.head.sizes.bytes =
+          all_at (λ (other : Start). other.base.shape.bytes ≡ input.head.sizes.bytes) running.starts
+          k start running.served.is_served_from.same_bytes there.1 in
+          let of_worker : worker.shape.bytes ≡ start.base.shape.bytes =
+          ap (λ shape. shape.bytes) of_run.works.shape_is in
+          ap (λ list. data_of (contents_of input.head.sizes.bytes list) call.tag) calls
+          ∙ tags_give_data input.calls.actors input.head.sizes.bytes done rest call.tag page content
+          (subst (λ list. AreNumberedAfter input.calls.actors [] list) calls
+          running.served.is_served_from.numbered)
+          ∙ ap (λ n. content_bytes n content) (sym (of_worker ∙ of_start))
+
+      own_data : (verb : Verb) → call.verb ≡ verb →
+          HasOwnData worker.shape.bytes call.tag verb (contents_in input)
+      own_data (Verb.Write page content) verb = own_write page content verb
+      own_data (Verb.Read page) verb = tt
+      own_data (Verb.Trim page) verb = tt
+      own_data (Verb.Age channel die sb amount) verb = tt
+      own_data (Verb.Refresh page) verb = tt
+      own_data (Verb.Collect channel) verb = tt
+      own_data (Verb.Drain count) verb = tt
+
+      -- a write finds room
+      write_room : (page : ℕ) (content : Content) → call.verb ≡ Verb.Write page content →
+          has_host_room start.base old.past ≡ true
+      write_room page content verb =
+          let are : AreStartsOf input.head 0 input.channels running.starts =
+          running.served.is_served_from.are_starts in
+          let as_many : length input.channels ≡ length running.starts =
+          Inputs.as_many_starts input.head 0 input.channels running.starts are in
+          let at =
+          Inputs.start_at input.head 0 input.channels running.starts k k start (omega arith) are
+          there.1 in
+          let room =
+          served_runs_have_room input running.starts done replies (pasts_of channels) k start
+          old.past running.served there.1 has_past
+          (all_at (λ (other : Start). HasBlankBlocks other.base) running.starts k start
+          running.blank there.1) in
+          let page_on : Some (page % length running.starts) ≡ Some k =
+          sym (ap (channel_of (length running.starts)) verb) ∙ on_start in
+          let on_page : page % length running.starts ≡ k = cc in
+          let is_write : is_write_to (length input.channels) k call.verb ≡ true =
+          (λ i. is_write_to (as_many i) k (verb i)) ∙
+          (λ i. page % length running.starts == sym on_page i) ∙ own_channel (length running.starts)
+          page in
+          let fit : nat_lt (writes_to (length input.channels) k done) (pages_that_fit start.base) ≡
+          true =
+          write_fits input k at.saved start.base done rest call at.has_saved at.is_base
+          running.has_room split is_write in
+          room ∙ sym (ap {B =
+          Bool} (λ (n : ℕ). nat_lt (writes_to n k done) (pages_that_fit start.base)) as_many) ∙
+          fit
+
+      finds_room : (verb : Verb) → call.verb ≡ verb → WouldFindRoom start old.past verb
+      finds_room (Verb.Write page content) verb = write_room page content verb
+      finds_room (Verb.Read page) verb = tt
+      finds_room (Verb.Trim page) verb = tt
+      finds_room (Verb.Age channel die sb amount) verb = tt
+      finds_room (Verb.Refresh page) verb = tt
+      finds_room (Verb.Collect channel) verb = tt
+      finds_room (Verb.Drain count) verb = tt
+
+      -- the worker may serve it
+      pub may_serve : MayServe worker old call.tag call.verb
+      may_serve = record {
+        usable =
+            record {
+              start = start;
+              contents = contents_in input;
+              works = of_run.works;
+              stands =
+                  of_run.stands;
+            };
+        own_data = own_data call.verb refl;
+        finds_room = finds_room call.verb refl;
       }
 
-  -- its history has room for three entries more, and for a look
-  pub few_entries : (k : ℕ) (old : ChannelState) → slice_get channels k ≡ Some old → length old.past ≤ 3 * length done
-  few_entries k old is = all_at (λ (channel : ChannelState). length channel.past ≤ 3 * length done) channels k old running.few_entries is
+      -- the channels with one that stands for its start
+      module _ (new : ChannelState) (stands : StandsFor new start (contents_in input)) where
+        new_is : IsChannelOf input worker start new
+        new_is = record {
+          works = of_run.works;
+          stands = stands;
+          limit_is = stands.limit_is ∙ sym of_run.stands.limit_is ∙ of_run.limit_is;
+        }
 
-  pub no_look : (k : ℕ) (old : ChannelState) → slice_get channels k ≡ Some old → length old.looks ≡ 0
-  no_look k old is = ap length ((channel_is k old is).stands.looks_are ∙ (between k old is).none_open)
+        are_channels : (n : ℕ) (other : Start) (channel : ChannelState) →
+            slice_get running.starts n ≡ Some other →
+            slice_get (slice_set channels k new) n ≡ Some channel →
+            IsChannelOf input worker other channel
+        are_channels n other channel has_start has_channel =
+            elim (one_or_other n k) [
+              | inl same ↦
+                  let found : Some channel ≡ Some new =
+                  sym has_channel ∙ ap (slice_get (slice_set channels k new)) same ∙ get_set
+                  channels k new (slice_get_within channels k old is) in
+                  let started : Some other ≡ Some start =
+                  sym has_start ∙ ap (slice_get running.starts) same ∙ there.1 in
+                  let channel_same : channel ≡ new = cc in
+                  let start_same : other ≡ start = cc in
+                  subst (λ s. IsChannelOf input worker s channel) (sym start_same)
+                  (subst (λ c. IsChannelOf input worker start c) (sym channel_same) new_is)
+              | inr differs ↦ running.are_channels n other channel has_start
+                  (sym (get_set_other channels n k new differs) ∙ has_channel)
+            ]
 
-  pub look_room : (k : ℕ) (old : ChannelState) → slice_get channels k ≡ Some old → length done < 2 ^ 20 → HasLookRoom old
-  look_room k old is few =
-      let limit : old.limit ≡ 4194304 = (channel_is k old is).limit_is in
-      omega (arith, few_entries k old is, no_look k old is, limit)
+        after : (calls : List TraceCall) (answers : List (List Reply)) →
+            IsServedRun input running.starts calls answers (pasts_of (slice_set channels k new)) →
+            IsRunning input worker (slice_set channels k new) calls answers
+        after calls answers served = record {
+          starts = running.starts;
+          served = served;
+          are_channels = are_channels;
+          few_channels = subst (λ n. n ≤ 8) (sym (length-set channels k new)) running.few_channels;
+          fits =
+              subst (λ n. All (λ call. FitsDrive worker.shape n call.verb) input.calls.calls)
+              (sym (length-set channels k new)) running.fits;
+          blank = running.blank;
+          has_room = running.has_room;
+          all_served = running.all_served;
+        }
 
-  pub step_room : (k : ℕ) (old : ChannelState) → slice_get channels k ≡ Some old → length done < 2 ^ 20 → HasStepRoom old
-  step_room k old is few = let room = look_room k old is few in omega (arith, room)
+      -- served, it leads the run on
+      pub goes_on : (new : ChannelState) (reply : Reply) →
+          IsServedOn worker (length channels) old new call.tag call.verb reply →
+          IsRunning input worker (slice_set channels k new) (done ++ call ∷ [])
+          (with_reply replies call.tag.actor reply)
+      goes_on new reply serves =
+          let made =
+          serves start (contents_in input) of_run.works of_run.stands (own_data call.verb refl) in
+          let next : ServesNext input running.starts (pasts_of channels) call reply k new.past =
+          record {
+            start = start;
+            past = old.past;
+            is_channel = on_start;
+            has_start = there.1;
+            has_past = has_past;
+            is_served =
+                subst (λ n. IsServedBy start (contents_in input) n call.tag call.verb reply old.past
+                new.past) (sym many_starts) made.1;
+            is_lawful = made.0.is_past.is_lawful;
+          } in
+          after new made.0 (done ++ call ∷ []) (with_reply replies call.tag.actor reply)
+          (subst (λ pasts. IsServedRun input running.starts (done ++ call ∷ [])
+          (with_reply replies call.tag.actor reply) pasts) (sym (map-set past_in channels k new))
+          (serves_one_more input running.starts done rest replies (pasts_of channels) call reply k
+          new.past running.served split next))
 
-  -- one more call leads the run on
-  module _ (call : TraceCall) (rest : List TraceCall) (split : input.calls.calls ≡ done ++ call ∷ rest) (k : ℕ) (old new : ChannelState) (is : slice_get channels k ≡ Some old) (reply : Reply) (on : channel_of (length channels) call.verb ≡ Some k) (made : IsServedBy (start_at k old is).0 (contents_in input) (length channels) call.tag call.verb reply old.past new.past) (stands : StandsFor new (start_at k old is).0 (contents_in input)) (few : length new.past ≤ length old.past + 3) where
-    abbrev start : Start
-    start = (start_at k old is).0
-
-    next : ServesNext input running.starts (pasts_of channels) call reply k new.past
-    next = record {
-      start = start;
-      past = old.past;
-      is_channel = subst (λ n. channel_of n call.verb ≡ Some k) (sym many_starts) on;
-      has_start = (start_at k old is).1;
-      has_past = past_at k old is;
-      is_served = subst (λ n. IsServedBy start (contents_in input) n call.tag call.verb reply old.past new.past) (sym many_starts) made;
-      is_lawful = stands.is_past.is_lawful;
-    }
-
-    served_after : IsServedRun input running.starts (done ++ call ∷ []) (with_reply replies call.tag.actor reply) (pasts_of (slice_set channels k new))
-    served_after =
-        subst (λ pasts. IsServedRun input running.starts (done ++ call ∷ []) (with_reply replies call.tag.actor reply) pasts) (sym (map-set past_in channels k new))
-        (serves_one_more pages_are_read input running.starts done rest replies (pasts_of channels) call reply k new.past running.served split next)
-
-    new_is : IsChannelOf input worker start new
-    new_is = record {
-      works = (channel_is k old is).works;
-      stands = stands;
-      limit_is = stands.limit_is ∙ sym (channel_is k old is).stands.limit_is ∙ (channel_is k old is).limit_is;
-    }
-
-    are_channels : (n : ℕ) (other : Start) (channel : ChannelState) → slice_get running.starts n ≡ Some other → slice_get (slice_set channels k new) n ≡ Some channel → IsChannelOf input worker other channel
-    are_channels n other channel has_start has_channel =
-        elim (one_or_other n k) [
-          | inl same ↦
-              let there : slice_get channels k ≡ Some old = is in
-              let found : Some channel ≡ Some new = sym has_channel ∙ ap (slice_get (slice_set channels k new)) same ∙ get_set channels k new (slice_get_within channels k old there) in
-              let started : Some other ≡ Some start = sym has_start ∙ ap (slice_get running.starts) same ∙ (start_at k old is).1 in
-              let channel_same : channel ≡ new = cc in
-              let start_same : other ≡ start = cc in
-              subst (λ s. IsChannelOf input worker s channel) (sym start_same) (subst (λ c. IsChannelOf input worker start c) (sym channel_same) new_is)
-          | inr differs ↦ running.are_channels n other channel has_start (sym (get_set_other channels n k new differs) ∙ has_channel)
-        ]
-
-    few_after : All (λ channel. length channel.past ≤ 3 * length (done ++ call ∷ [])) (slice_set channels k new)
-    few_after =
-        let more = one_more done call in
-        All-set (λ (channel : ChannelState). length channel.past ≤ 3 * length (done ++ call ∷ [])) channels k new
-        (omega (arith, few, more, few_entries k old is))
-        (All-weaker (λ (channel : ChannelState). length channel.past ≤ 3 * length done) (λ (channel : ChannelState). length channel.past ≤ 3 * length (done ++ call ∷ []))
-        (λ channel before. omega (arith, before, more)) channels running.few_entries)
-
-    pub goes_on : IsRunning input worker (slice_set channels k new) (done ++ call ∷ []) (with_reply replies call.tag.actor reply)
-    goes_on = record {
-      starts = running.starts;
-      served = served_after;
-      are_channels = are_channels;
-      few_channels = subst (λ n. n ≤ 8) (sym (length-set channels k new)) running.few_channels;
-      fits = subst (λ n. All (λ call. FitsDrive worker n call.verb) input.calls.calls) (sym (length-set channels k new)) running.fits;
-      few_entries = few_after;
-    }
+      -- where its channel's history has no room, the run stops
+      pub stops : (new : ChannelState) (entries : ℕ) →
+          IsRefusedOn worker old new call.tag call.verb entries →
+          HasStopped input worker (slice_set channels k new) replies k entries
+      unfolding after
+      stops new entries refused =
+          let stands =
+          refused.1 start (contents_in input) of_run.works of_run.stands
+          (own_data call.verb refl) in
+          let full = refused.0 in
+          let same : pasts_of (slice_set channels k new) ≡ pasts_of channels =
+          map-set past_in channels k new ∙ ap {B =
+          List (List Entry)} (λ (past : List Entry). slice_set (pasts_of channels) k past)
+          full.past_stays ∙ set_same (pasts_of channels) k old.past has_past in
+          record {
+            done = done;
+            call = call;
+            running =
+                after new stands done replies (subst
+                (λ pasts. IsServedRun input running.starts done replies pasts) (sym same)
+                running.served);
+            stops = record {
+              rest = rest;
+              are_calls = split;
+              plain_verbs = all_plain input.calls.calls running.all_served;
+              is_channel = on_start;
+              start = start;
+              past = old.past;
+              has_start = there.1;
+              has_past = subst (λ pasts. slice_get pasts k ≡ Some old.past) (sym same) has_past;
+              finds_room = finds_room call.verb refl;
+              has_length = sym full.entries_are;
+              no_room =
+                  subst (λ n. n < entries + room_wanted call.verb) of_run.limit_is
+                  (full.no_room no_look);
+            };
+          }

@@ -1,6 +1,9 @@
 pub mod Begun
+pub mod ChannelCalls
 pub mod Forms
+pub mod Noiseless
 pub mod Printed
+pub mod RoomForTrace
 pub mod Running
 pub mod Serving
 pub mod Statuses

@@ -1,18 +1,30 @@
--- What is printed, and when may it be? The histories, the kinds of calls and the replies are lists that fit each other, and
--- the text is that of a whole run without a hint.
-use Rattle.std.specs.Prelude.{◌≡◌, ◌≤◌, true, length, sum_by}
+-- What is printed, and when may it be? The histories, the kinds of calls and the replies are lists
+-- that fit each other, and no hint was taken.
+use Rattle.std.specs.Prelude.{ℕ, ◌≡◌, ◌≤◌, true, length, Option, Some, None, sum_by}
 use Rattle.history_text.specs.Places.{AsLong}
+use Rattle.run_laws.specs.ServedRuns.{hints_in}
 use Rattle.ssd_geo.specs.Numbers.{Text}
 use Rattle.ssd_geo.specs.RunText.{run_text, taken_by}
 use Rattle.ssd_top.specs.declared.printed.Printed.{Printed}
+use Rattle.ssd_top.specs.declared.status.Status.{Status}
 
--- the lists fit each other, and no hint was taken
+-- the lists fit each other, the hints that were dropped are among those that came, and none was
+-- taken
 pub record IsPrintable (printed : Printed) : Type 0 where
   pub few_levels : length printed.head.read_levels ≤ 16
   pub lists : length printed.kinds.items ≡ length printed.replies.items
   pub long : AsLong printed.kinds.items printed.replies.items
+  pub dropped : printed.dropped ≤ hints_in printed.replies.items
   pub none_taken : sum_by (sum_by taken_by) printed.replies.items ≡ 0
 
 -- the text
 abbrev pub text_of : Printed → Text
-text_of printed = run_text true (length printed.head.read_levels) printed.histories.items printed.kinds.items printed.replies.items 0
+text_of printed =
+    run_text true (length printed.head.read_levels) printed.histories.items printed.kinds.items
+    printed.replies.items printed.dropped
+
+-- the status of a run that was printed: it was whole, or stopped at the limit of this channel's
+-- history, of this length
+abbrev pub status_after : Option (ℕ × ℕ) → Status
+status_after None = Status.Done
+status_after (Some stop) = Status.HistoryLimit stop.0 stop.1

@@ -1,12 +1,12 @@
--- What does the program tell its caller of a status? The exit status is a number, and standard error gets a line of text
--- where it isn't 0.
+-- What does the program tell its caller of a status? The exit status is a number, and standard
+-- error gets a line of text where it isn't 0.
 use Rattle.std.specs.Prelude.{ℕ, List, codes}
 use Rattle.ssd_geo.specs.Statuses as Statuses
-use Rattle.ssd_geo.specs.Statuses.{done, image, out_of_memory, read_fault, trace, words_refused, write_fault}
+use Rattle.ssd_geo.specs.Statuses.{done, history_limit, image, out_of_memory, read_fault, trace, words_refused, write_fault}
 use Rattle.image_file.specs.Gives.{named_fault as image_fault}
 use Rattle.trace_text.specs.Answers.{named_fault as trace_fault}
 use Rattle.ssd_top.specs.declared.status.Status.{Status}
-use Rattle.ssd_top.specs.declared.status.Status.TheVariants.{Done, Words, Image, Trace, ReadFault, WriteFault, OutOfMemory, NotBuilt}
+use Rattle.ssd_top.specs.declared.status.Status.TheVariants.{Done, Words, Image, Trace, ReadFault, WriteFault, HistoryLimit, OutOfMemory, NotBuilt}
 
 -- the exit status: that of the definitions, and a number of its own for what isn't built
 abbrev pub status_number : Status → ℕ
@@ -16,6 +16,7 @@ status_number (Image at fault) = Statuses.status_number (image at (image_fault f
 status_number (Trace line fault) = Statuses.status_number (trace line (trace_fault fault))
 status_number ReadFault = Statuses.status_number read_fault
 status_number WriteFault = Statuses.status_number write_fault
+status_number (HistoryLimit channel length) = Statuses.status_number (history_limit channel length)
 status_number OutOfMemory = Statuses.status_number out_of_memory
 status_number NotBuilt = 10
 
@@ -27,5 +28,6 @@ text_of_status (Image at fault) = Statuses.status_text (image at (image_fault fa
 text_of_status (Trace line fault) = Statuses.status_text (trace line (trace_fault fault))
 text_of_status ReadFault = Statuses.status_text read_fault
 text_of_status WriteFault = Statuses.status_text write_fault
+text_of_status (HistoryLimit channel length) = Statuses.status_text (history_limit channel length)
 text_of_status OutOfMemory = Statuses.status_text out_of_memory
 text_of_status NotBuilt = codes "not built\n"

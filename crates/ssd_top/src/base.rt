@@ -12,8 +12,8 @@ use std::alloc::Global;
 // A channel of a blank drive, as the head of its image tells it.
 pub fn blank_base(alloc: Global, head: &ImageHead, channel: u8) -> Result<ChannelBase, Memory>
     requires { channel < head.now.shape.channels }
-    ensures base { IfOk result
-        (λ base. IsBaseOf (head_of head.now) channel (blank_channel (head_of head.now) channel) base) }
+    ensures base { let saved = blank_channel (head_of head.now) channel in
+        IfOk result (λ base. IsBaseOf (head_of head.now) channel saved base) }
     ensures shape { IfOk result (λ base. base.shape ≡ head.now.shape) }
 {
     let blocks = blank_blocks(alloc, head, channel)?;
@@ -66,7 +66,7 @@ fn blank_block(head: &ImageHead, channel: u8, sb: u16) -> BlockBase
     }
 }
 
-fn is_listed_bad(head: &ImageHead, channel: u8, sb: u16) -> bool
+pub fn is_listed_bad(head: &ImageHead, channel: u8, sb: u16) -> bool
     ensures { result ≡ is_factory_bad (head_of head.now) channel sb }
 {
     head.bad
@@ -93,7 +93,8 @@ fn zero_sum(alloc: Global, shape: &Shape) -> Result<Items<u8>, Memory>
     }
 }
 
-fn copied<T: Copy>(alloc: Global, list: &Items<T>) -> Result<Items<T>, Memory>
+// A copy of a list.
+pub fn copied<T: Copy>(alloc: Global, list: &Items<T>) -> Result<Items<T>, Memory>
     ensures { IfOk result (λ copy. copy ≡ list.now) }
 {
     match Vec::from_slice(alloc, list.as_slice()) {

@@ -7,8 +7,8 @@ use rand_core::{Rng, SeedableRng};
 use rand_xoshiro::SplitMix64;
 use ssd_geo::Content;
 
-// The data bytes of a write: the bytes listed and zeros after them, or the first bytes of the words that a number
-// starts.
+// The data bytes of a write: the bytes listed and zeros after them, or the first bytes of the words
+// that a number starts.
 pub fn content_into(content: &Content, out: &mut [u8])
     requires { IsContentOf (length out.old) content.now }
     ensures { out.new ≡ content_bytes (length out.old) content.now }

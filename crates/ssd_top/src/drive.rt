@@ -1,11 +1,12 @@
 // What serves a drive is made from the head of its image.
-ghost use Rattle.std.specs.Prelude.{◌≡◌, ◌<◌, [], IfOk, Some, slice_get};
+ghost use Rattle.std.specs.Prelude.{◌≡◌, ◌<◌, [], IfOk};
 ghost use Rattle.ssd_geo.specs.ImageHead.{IsHead, head_of, matrix_of};
 ghost use Rattle.ssd_top.specs.Begun.{AreBegun, IsBegun, IsWorkerOf};
 
-use crate::base::blank_base;
-use crate::worker::Worker;
+use crate::base::{blank_base, copied};
+use chan_calls::Worker;
 use chan_state::Channel;
+use ldpc_decode::Lanes;
 use qc_matrix::{Code, CodeFault};
 use ssd_geo::{ImageHead, Memory};
 use std::alloc::Global;
@@ -25,24 +26,23 @@ fn code_of(alloc: Global, head: &ImageHead) -> Result<Code, Memory>
     }
 }
 
-// The read level of the first sense.
-fn first_level(head: &ImageHead) -> i16
-    requires { IsHead (head_of head.now) }
-    ensures { slice_get head.now.read_levels 0 ≡ Some result }
-{
-    match head.read_levels.as_slice().first() {
-        Some(level) => *level,
-        None => unreachable!(),
-    }
-}
-
 // The worker of the drive that an image's head tells of.
 pub fn worker_of(alloc: Global, head: &ImageHead) -> Result<Worker, Memory>
     requires { IsHead (head_of head.now) }
     ensures { IfOk result (IsWorkerOf (head_of head.now)) }
 {
     let code = code_of(alloc, head)?;
-    Worker::new(alloc, head.shape, head.session, code, first_level(head))
+    let read_levels = copied(alloc, &head.read_levels)?;
+    Worker::new(
+        alloc,
+        head.shape,
+        head.session,
+        code,
+        head.iterations,
+        Lanes::Sixteen,
+        read_levels,
+        head.step,
+    )
 }
 
 // The limit of each history's entries.

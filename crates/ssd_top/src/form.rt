@@ -1,27 +1,17 @@
 // Which inputs are served, tested before their first call.
 ghost use Rattle.std.specs.Prelude.{◌≡◌};
-ghost use Rattle.ssd_geo.specs.ImageHead.{head_of};
-ghost use Rattle.ssd_top.specs.Forms.{are_served, is_served_drive, is_served_verb, tells_apart};
+ghost use Rattle.ssd_geo.specs.ImageHead.{IsHead, head_of, sizes_of};
+ghost use Rattle.ssd_top.specs.Forms.{are_served, blank_input, is_served, is_served_drive, is_served_verb};
+ghost use Rattle.trace_text.specs.NumberedCalls.{IsNumbered};
 
-use ssd_geo::{CellLaw, ImageHead, Trace, Verb};
-
-// Whether the first of some read levels tells the cells of a law apart.
-fn tells_apart(law: &CellLaw, levels: &[i16]) -> bool
-    ensures { result ≡ tells_apart law.now levels.now }
-{
-    match levels.first() {
-        Some(level) => law.erased < *level && *level <= law.programmed,
-        None => false,
-    }
-}
+use crate::room::has_room;
+use ssd_geo::{ImageHead, Trace, Verb};
 
 // Whether a drive is served.
-pub fn is_served_drive(head: &ImageHead) -> bool
+fn is_served_drive(head: &ImageHead) -> bool
     ensures { result ≡ is_served_drive (head_of head.now) }
 {
-    head.law.spread == 0
-        && head.weak.len() == 0
-        && tells_apart(&head.law, head.read_levels.as_slice())
+    !head.full && head.weak.len() == 0
 }
 
 // Whether what a call asks is served.
@@ -30,14 +20,23 @@ fn is_served_verb(verb: &Verb) -> bool
 {
     matches!(
         verb,
-        Verb::Write { .. } | Verb::Read { .. } | Verb::Trim { .. }
+        Verb::Write { .. } | Verb::Read { .. } | Verb::Trim { .. } | Verb::Age { .. }
     )
 }
 
 // Whether all calls of a trace are served.
-pub fn are_served(trace: &Trace) -> bool
+fn are_served(trace: &Trace) -> bool
     ensures { result ≡ are_served trace.now.calls }
 {
     let calls = trace.calls.as_slice();
     calls.iter().all(|call| is_served_verb(&call.verb))
+}
+
+// Whether the input of a blank drive and a trace is served.
+pub fn is_served(head: &ImageHead, trace: &Trace) -> bool
+    requires head { IsHead (head_of head.now) }
+    requires calls { IsNumbered (sizes_of head.now.shape) trace.now }
+    ensures { result ≡ is_served (blank_input (head_of head.now) trace.now) }
+{
+    is_served_drive(head) && are_served(trace) && has_room(head, trace)
 }

@@ -1,5 +1,5 @@
-//! The top call: it takes the words of the command line, a source and a sink, serves what the source holds and
-//! answers how that ended. It knows no operating system.
+//! The top call: it takes the words of the command line, a source and a sink, serves what the
+//! source holds and answers how that ended. It knows no operating system.
 #![tactic(auto)]
 
 mod base;
@@ -7,16 +7,17 @@ mod content;
 mod drive;
 mod form;
 mod lists;
+mod noiseless;
 mod printed;
+mod room;
 mod serve;
 mod serving;
 mod status;
-mod steps;
 #[cfg(test)]
 mod tests;
 mod top;
 mod words;
-mod worker;
 
+pub use noiseless::noiseless_pages_are_read_at_once;
 pub use status::{Status, status_text};
 pub use top::run;

@@ -1,21 +1,21 @@
 // An input, from its bytes to what is printed of it.
-ghost use Rattle.std.specs.Prelude.{◌≡◌, ◌&&◌, true, IfErr, IfOk, IsErrOf};
+ghost use Rattle.std.specs.Prelude.{◌≡◌, true, IfErr, IfOk};
 ghost use Rattle.ssd_geo.specs.Faults.{NeverFell};
 ghost use Rattle.ssd_geo.specs.ImageHead.{IsHead, head_of, sizes_of};
-ghost use Rattle.ssd_top.specs.Forms.{are_served, blank_input, is_served_drive};
-ghost use Rattle.ssd_top.specs.Running.{MeetsNoRoom};
-ghost use Rattle.ssd_top.specs.Serving.{HasServed, IsCausedByTold, IsNoDie, IsOfInput, IsServed, IsStop, status_of_image, status_of_trace};
+ghost use Rattle.ssd_top.specs.Forms.{blank_input, is_served};
+ghost use Rattle.ssd_top.specs.Serving.{HasServed, IsCausedByTold, IsNoDie, IsOfInput, IsServed, IsStop};
+ghost use Rattle.ssd_top.specs.Serving.{status_of_image, status_of_trace};
 ghost use Rattle.trace_text.specs.NumberedCalls.{IsNumbered};
 
 use crate::Status;
 use crate::drive::{channels_of, worker_of};
-use crate::form::{are_served, is_served_drive};
+use crate::form::is_served;
 use crate::lists::{histories_of, kinds_of, replies_of};
 use crate::printed::Printed;
-use crate::serving::{ServingStop, serve_trace};
+use crate::serving::{Answered, serve_trace};
 use chan_state::Channel;
 use image_file::{ImageFault, ReadStop, read_head};
-use ssd_geo::{ImageHead, Memory, Reply, Trace};
+use ssd_geo::{ImageHead, Memory, Trace};
 use ssd_io::Source;
 use std::alloc::Global;
 use trace_text::{TraceFault, read_trace};
@@ -46,32 +46,24 @@ fn trace_status(stop: ReadStop<TraceFault>) -> Status
     }
 }
 
-// The channels and the replies of a trace whose calls were all served. Item n of the replies has those of actor n.
+// The channels of a trace whose calls were served, and what they were answered.
 #[derive(Drop)]
 struct Served {
     channels: Vec<Channel>,
-    replies: Vec<Vec<Reply>>,
+    answered: Answered,
 }
 
 // Serves the calls of a trace on the drive of an image's head.
-fn serve(alloc: Global, head: &ImageHead, trace: &Trace) -> Result<Served, ServingStop>
+fn serve(alloc: Global, head: &ImageHead, trace: &Trace) -> Result<Served, Memory>
     requires head { IsHead (head_of head.now) }
     requires calls { IsNumbered (sizes_of head.now.shape) trace.now }
-    requires drive { is_served_drive (head_of head.now) ≡ true }
-    requires verbs { are_served trace.now.calls ≡ true }
-    ensures ok { IfOk result (IsServed (blank_input (head_of head.now) trace.now)) }
-    ensures no_room { IsErrOf result ServingStop.NoRoom → MeetsNoRoom (blank_input (head_of head.now) trace.now) }
+    requires served { is_served (blank_input (head_of head.now) trace.now) ≡ true }
+    ensures { IfOk result (IsServed (blank_input (head_of head.now) trace.now)) }
 {
-    let Ok(mut worker) = worker_of(alloc, head) else {
-        return Err(ServingStop::Memory);
-    };
-    let Ok(mut channels) = channels_of(alloc, head) else {
-        return Err(ServingStop::Memory);
-    };
-    match serve_trace(alloc, &mut worker, &mut channels, trace) {
-        Ok(replies) => Ok(Served { channels, replies }),
-        Err(stop) => Err(stop),
-    }
+    let mut worker = worker_of(alloc, head)?;
+    let mut channels = channels_of(alloc, head)?;
+    let answered = serve_trace(alloc, &mut worker, &mut channels, trace)?;
+    Ok(Served { channels, answered })
 }
 
 // What is printed of calls that were served.
@@ -85,7 +77,12 @@ fn printed_of(
     requires served { IsServed (blank_input (head_of head) trace.now) served }
     ensures { IfOk result (IsOfInput (blank_input (head_of head) trace.now)) }
 {
-    let Served { channels, replies } = served;
+    let Served { channels, answered } = served;
+    let Answered {
+        replies,
+        full,
+        dropped,
+    } = answered;
     let histories = histories_of(channels)?;
     let replies = replies_of(replies)?;
     let kinds = kinds_of(alloc, trace)?;
@@ -98,6 +95,8 @@ fn printed_of(
         histories,
         kinds,
         replies,
+        dropped,
+        full,
         line,
     })
 }
@@ -120,15 +119,14 @@ pub fn serve_input<S: Source>(alloc: Global, input: &mut S) -> Result<Printed, S
         Ok(trace) => trace,
         Err(stop) => return Err(trace_status(stop)),
     };
-    if !is_served_drive(&head) || !are_served(&trace) {
+    if !is_served(&head, &trace) {
         return Err(Status::NotBuilt);
     }
-    match serve(alloc, &head, &trace) {
-        Ok(served) => match printed_of(alloc, head, &trace, served) {
-            Ok(printed) => Ok(printed),
-            Err(Memory) => Err(Status::OutOfMemory),
-        },
-        Err(ServingStop::NoRoom) => Err(Status::NotBuilt),
-        Err(ServingStop::Memory) => Err(Status::OutOfMemory),
+    let Ok(served) = serve(alloc, &head, &trace) else {
+        return Err(Status::OutOfMemory);
+    };
+    match printed_of(alloc, head, &trace, served) {
+        Ok(printed) => Ok(printed),
+        Err(Memory) => Err(Status::OutOfMemory),
     }
 }

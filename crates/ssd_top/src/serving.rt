@@ -1,75 +1,203 @@
 // The calls of a trace, served one after the other.
-ghost use Rattle.std.specs.Prelude.{◌≡◌, ◌≤◌, ◌<◌, ◌%◌, ◌/◌, [], IfOk, IsErrOf, IsTrue, OnOk, length, map, replicate};
-ghost use Rattle.run_laws.specs.ServedRuns.{with_reply};
-ghost use Rattle.ssd_top.specs.Forms.{are_served, is_served_verb};
-ghost use Rattle.ssd_top.specs.Running.{BeginsRun, GoesOn, IsNext, RunsOutOfRoom, RunsTo, StopsForRoom};
+ghost use Rattle.std.specs.Prelude.{◌≡◌, ◌≤◌, ◌<◌, ◌/◌, [], IfOk, IsTrue, OnOk, Some, length, map, replicate};
+ghost use Rattle.chan_calls.specs.Calls.{reply_of};
+ghost use Rattle.run_laws.specs.ServedRuns.{channel_of, with_reply};
+ghost use Rattle.ssd_geo.specs.RunText.{is_hinted};
+ghost use Rattle.ssd_top.specs.ChannelCalls.{IfHistoryFull, MayServe, MayUse, MayWrite};
+ghost use Rattle.ssd_top.specs.ChannelCalls.{IsReadRefused, IsRefusedOn, IsWriteRefused};
+ghost use Rattle.ssd_top.specs.ChannelCalls.{IsRowRead, IsRowWritten, IsServedOn};
+ghost use Rattle.ssd_top.specs.Forms.{is_served_verb};
+ghost use Rattle.ssd_top.specs.Running.{BeginsRun, FitsDrive, GoesOn, IsNext, StopsInHistory};
+ghost use Rattle.ssd_top.specs.Serving.{IfFull, RunsToEnd};
+ghost use Rattle.ssd_top.specs.Workers.{IsContentOf, settings};
 
-use crate::steps::Steps;
-use crate::worker::Worker;
-use chan_state::WriteAnswer;
-use ssd_geo::{Memory, Reply, StepStop, Trace, TraceCall, Verb};
+use crate::content::content_into;
+use chan_calls::{Alone, OpenGate, ReadReply, Worker, reads_alone_are_served};
+use chan_state::{AgeAnswer, Channel, WriteAnswer};
+use ssd_geo::{Content, Items, Memory, Reply, ServeStop, StepStop, Tag, Trace, TraceCall, Verb};
 use std::alloc::Global;
 
-// The channel of a page, of so many, and its row there.
-fn place_of(page: u32, channels: usize) -> (usize, u32)
+// The greatest number of hints that are kept. None is taken yet, so each further one is dropped.
+const MOST_HINTS: u32 = 256;
+
+// The channel of a call, of so many.
+fn channel_of(verb: &Verb, channels: usize) -> usize
+    requires low { 1 ≤ channels }
+    requires verb { IsTrue (is_served_verb verb.now) }
+    ensures { channel_of channels verb.now ≡ Some result }
+{
+    match verb {
+        Verb::Write { page, .. } | Verb::Read { page } | Verb::Trim { page } => {
+            *page as usize % channels
+        }
+        Verb::Age { channel, .. } => *channel as usize,
+        _ => unreachable!(),
+    }
+}
+
+// The row of a page on its channel, of so many.
+fn row_of(page: u32, channels: usize) -> u32
     requires low { 1 ≤ channels }
     requires high { channels ≤ 8 }
-    ensures channel { result.0 ≡ page % channels }
-    ensures row { result.1 ≡ page / channels }
+    ensures { result ≡ page / channels }
 {
-    (page as usize % channels, page / channels as u32)
+    page / channels as u32
 }
 
-// Why a trace was not served to its end.
-pub enum ServingStop {
-    // A write found no room for a host's page.
-    NoRoom,
-    // Memory was wanted and refused.
-    Memory,
+// The reply of a read, with a copy of the data that the worker recovered.
+fn reply_of(alloc: Global, answer: ReadReply, worker: &Worker) -> Result<Reply, Memory>
+    ensures { IfOk result (λ reply. reply ≡ reply_of answer worker.now.data_bytes) }
+{
+    match answer {
+        ReadReply::Empty => Ok(Reply::Empty),
+        ReadReply::Uncorrectable => Ok(Reply::Uncorrectable),
+        ReadReply::Bytes { rung } => match Vec::from_slice(alloc, worker.bytes()) {
+            Ok(bytes) => Ok(Reply::Data {
+                rung,
+                bytes: Items::new(bytes),
+            }),
+            Err(_) => Err(Memory),
+        },
+    }
 }
 
-// Serves a call on its page's channel.
-pub fn serve_call<C: Steps>(
+// Writes data to a row of a channel. They are made in `bytes`.
+fn write(
+    worker: &mut Worker,
+    channel: &mut Channel,
+    bytes: &mut [u8],
+    tag: Tag,
+    row: u32,
+    content: &Content,
+) -> Result<Reply, StepStop>
+    requires may { MayWrite (settings worker.old) channel.old tag content.now }
+    requires row { row < worker.old.shape.rows }
+    requires content { IsContentOf worker.old.shape.bytes content.now }
+    requires bytes { length bytes.old ≡ worker.old.shape.bytes }
+    ensures same { settings worker.new ≡ settings worker.old }
+    ensures bytes { length bytes.new ≡ length bytes.old }
+    ensures ok { IfOk result (λ reply.
+        IsRowWritten (settings worker.old) channel.old channel.new tag row content.now reply) }
+    ensures full { IfHistoryFull result (λ entries.
+        IsWriteRefused (settings worker.old) channel.old channel.new tag content.now entries) }
+{
+    content_into(content, bytes);
+    let mut steps = Alone::new(channel);
+    match worker.write_once(&mut steps, &OpenGate, tag, row, bytes) {
+        Ok(WriteAnswer::Written { .. }) => Ok(Reply::Ok),
+        Ok(WriteAnswer::NeedRoom) => unreachable!(),
+        Err(stop) => Err(stop),
+    }
+}
+
+// Reads a row of a channel.
+fn read(
     alloc: Global,
     worker: &mut Worker,
-    channels: &mut [C],
+    channel: &mut Channel,
+    tag: Tag,
+    row: u32,
+) -> Result<Reply, StepStop>
+    requires may { MayUse (settings worker.old) channel.old }
+    requires row { row < worker.old.shape.rows }
+    ensures same { settings worker.new ≡ settings worker.old }
+    ensures ok { IfOk result (λ reply.
+        IsRowRead (settings worker.old) channel.old channel.new tag row reply) }
+    ensures full { IfHistoryFull result (λ entries.
+        IsReadRefused (settings worker.old) channel.old channel.new entries) }
+{
+    reads_alone_are_served();
+    let mut steps = Alone::new(channel);
+    let answer = match worker.read(&mut steps, &OpenGate, tag, row) {
+        Ok(answer) => answer,
+        Err(stop) => return Err(stop),
+    };
+    match reply_of(alloc, answer, worker) {
+        Ok(reply) => Ok(reply),
+        Err(Memory) => Err(StepStop::Memory),
+    }
+}
+
+// Serves a call on its channel, of so many. The data of a write are made in `bytes`.
+fn call_on(
+    alloc: Global,
+    worker: &mut Worker,
+    channel: &mut Channel,
+    bytes: &mut [u8],
     call: &TraceCall,
-) -> Result<Reply, ServingStop>
-    requires next { IsNext worker.old (map C.state channels.old) call.now }
+    channels: usize,
+) -> Result<Reply, StepStop>
+    requires low { 1 ≤ channels }
+    requires high { channels ≤ 8 }
+    requires may { MayServe (settings worker.old) channel.old call.now.tag call.now.verb }
+    requires fits { FitsDrive worker.old.shape channels call.now.verb }
     requires verb { IsTrue (is_served_verb call.now.verb) }
-    ensures same { worker.new ≡ worker.old }
-    ensures ok { IfOk result (λ reply. GoesOn worker.old (map C.state channels.old)
-        (map C.state channels.new) call.now reply) }
-    ensures no_room { IsErrOf result ServingStop.NoRoom
-        → StopsForRoom worker.old (map C.state channels.old) call.now }
+    requires bytes { length bytes.old ≡ worker.old.shape.bytes }
+    ensures same { settings worker.new ≡ settings worker.old }
+    ensures bytes { length bytes.new ≡ length bytes.old }
+    ensures ok { IfOk result (λ reply.
+        IsServedOn (settings worker.old) channels channel.old channel.new
+        call.now.tag call.now.verb reply) }
+    ensures full { IfHistoryFull result (λ entries.
+        IsRefusedOn (settings worker.old) channel.old channel.new
+        call.now.tag call.now.verb entries) }
 {
     match &call.verb {
         Verb::Write { page, content } => {
-            let (channel, row) = place_of(*page, channels.len());
-            match worker.write_once(&mut channels[channel], call.tag, row, content) {
-                Ok(WriteAnswer::Written { .. }) => Ok(Reply::Ok),
-                Ok(WriteAnswer::NeedRoom) => Err(ServingStop::NoRoom),
-                Err(StepStop::Memory) => Err(ServingStop::Memory),
-                Err(StepStop::HistoryFull { .. }) => unreachable!(),
-            }
+            write(
+                worker,
+                channel,
+                bytes,
+                call.tag,
+                row_of(*page, channels),
+                content,
+            )
         }
-        Verb::Read { page } => {
-            let (channel, row) = place_of(*page, channels.len());
-            match worker.read(alloc, &mut channels[channel], call.tag, row) {
-                Ok(reply) => Ok(reply),
-                Err(StepStop::Memory) => Err(ServingStop::Memory),
-                Err(StepStop::HistoryFull { .. }) => unreachable!(),
-            }
-        }
-        Verb::Trim { page } => {
-            let (channel, row) = place_of(*page, channels.len());
-            match channels[channel].trim(call.tag, row) {
-                Ok(()) => Ok(Reply::Ok),
-                Err(StepStop::Memory) => Err(ServingStop::Memory),
-                Err(StepStop::HistoryFull { .. }) => unreachable!(),
-            }
-        }
+        Verb::Read { page } => read(alloc, worker, channel, call.tag, row_of(*page, channels)),
+        Verb::Trim { page } => match channel.trim(call.tag, row_of(*page, channels)) {
+            Ok(()) => Ok(Reply::Ok),
+            Err(stop) => Err(stop),
+        },
+        Verb::Age {
+            die,
+            sb,
+            amount,
+            ..
+        } => match channel.age(call.tag, *die, *sb, *amount) {
+            Ok(AgeAnswer::Aged) => Ok(Reply::Ok),
+            Err(stop) => Err(stop),
+        },
         _ => unreachable!(),
+    }
+}
+
+// Serves the next call of a run. The data of a write are made in `bytes`.
+pub fn serve_call(
+    alloc: Global,
+    worker: &mut Worker,
+    channels: &mut [Channel],
+    bytes: &mut [u8],
+    call: &TraceCall,
+) -> Result<Reply, ServeStop>
+    requires next { IsNext (settings worker.old) channels.old call.now }
+    requires verb { IsTrue (is_served_verb call.now.verb) }
+    requires bytes { length bytes.old ≡ worker.old.shape.bytes }
+    ensures same { settings worker.new ≡ settings worker.old }
+    ensures bytes { length bytes.new ≡ length bytes.old }
+    ensures ok { IfOk result (λ reply.
+        GoesOn (settings worker.old) channels.old channels.new call.now reply) }
+    ensures full { IfFull result (λ channel entries.
+        StopsInHistory (settings worker.old) channels.old channels.new call.now channel entries) }
+{
+    let count = channels.len();
+    let channel = channel_of(&call.verb, count);
+    match call_on(alloc, worker, &mut channels[channel], bytes, call, count) {
+        Ok(reply) => Ok(reply),
+        Err(StepStop::HistoryFull { length }) => Err(ServeStop::HistoryFull {
+            channel: channel as u8,
+            length,
+        }),
+        Err(StepStop::Memory) => Err(ServeStop::Memory),
     }
 }
 
@@ -99,33 +227,63 @@ fn add_reply(replies: &mut Vec<Vec<Reply>>, actor: u8, reply: Reply) -> Result<(
     Ok(())
 }
 
-// Serves all calls of a trace; item n of the answer has the replies of actor n.
-pub fn serve_trace<C: Steps>(
+// The replies of the calls of a trace that were answered: all, or those before a stop at the limit of
+// this channel's history, which then had this length; and how many hints were dropped. Item n of the
+// replies has those of actor n.
+#[derive(Drop)]
+pub struct Answered {
+    pub replies: Vec<Vec<Reply>>,
+    pub full: Option<(u8, u32)>,
+    pub dropped: u32,
+}
+
+// Whether a reply is a hint: data of a rung that isn't 0.
+fn is_hint(reply: &Reply) -> bool
+    ensures { result ≡ is_hinted reply.now }
+{
+    matches!(reply, Reply::Data { rung, .. } if *rung != 0)
+}
+
+// A list of so many zeros.
+fn zeros(alloc: Global, count: usize) -> Result<Vec<u8>, Memory>
+    ensures { IfOk result (λ list. length list.items ≡ count) }
+{
+    vec![in alloc; 0; count].map_err(|_| Memory)
+}
+
+// Serves the calls of a trace, to the first that finds no room in its channel's history.
+pub fn serve_trace(
     alloc: Global,
     worker: &mut Worker,
-    channels: &mut [C],
+    channels: &mut [Channel],
     trace: &Trace,
-) -> Result<Vec<Vec<Reply>>, ServingStop>
-    requires begins { BeginsRun worker.old (map C.state channels.old) trace.now }
-    requires served { IsTrue (are_served trace.now.calls) }
-    ensures same { worker.new ≡ worker.old }
-    ensures ok { IfOk result (λ replies. RunsTo worker.old (map C.state channels.old)
-        (map C.state channels.new) trace.now trace.now.calls
-        (map (λ list. list.items) replies.items)) }
-    ensures no_room { IsErrOf result ServingStop.NoRoom
-        → RunsOutOfRoom worker.old (map C.state channels.old) trace.now }
+) -> Result<Answered, Memory>
+    requires begins { BeginsRun (settings worker.old) channels.old trace.now }
+    ensures same { settings worker.new ≡ settings worker.old }
+    ensures ok { IfOk result (λ answered.
+        RunsToEnd (settings worker.old) channels.old channels.new trace.now answered) }
 {
-    let Ok(mut replies) = no_replies(alloc, trace.actors) else {
-        return Err(ServingStop::Memory);
-    };
+    let mut replies = no_replies(alloc, trace.actors)?;
+    let mut bytes = zeros(alloc, worker.shape().bytes as usize)?;
+    let mut hints = 0u32;
     for call in trace.calls.as_slice() {
-        let reply = match serve_call(alloc, worker, channels, call) {
+        let reply = match serve_call(alloc, worker, channels, &mut bytes, call) {
             Ok(reply) => reply,
-            Err(stop) => return Err(stop),
+            Err(ServeStop::HistoryFull { channel, length }) => {
+                return Ok(Answered {
+                    replies,
+                    full: Some((channel, length)),
+                    dropped: hints.saturating_sub(MOST_HINTS),
+                });
+            }
+            Err(ServeStop::Memory) => return Err(Memory),
         };
-        let Ok(()) = add_reply(&mut replies, call.tag.actor, reply) else {
-            return Err(ServingStop::Memory);
-        };
+        hints += u32::from(is_hint(&reply));
+        add_reply(&mut replies, call.tag.actor, reply)?;
     }
-    Ok(replies)
+    Ok(Answered {
+        replies,
+        full: None,
+        dropped: hints.saturating_sub(MOST_HINTS),
+    })
 }

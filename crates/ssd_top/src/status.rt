@@ -25,6 +25,9 @@ pub enum Status {
     ReadFault,
     /// The sink failed. What was written is the beginning of the output.
     WriteFault,
+    /// The history of this channel, of this length, had no room for the next call. The calls before
+    /// it were answered, and all output of them was written.
+    HistoryLimit { channel: u8, length: u32 },
     /// Memory was wanted and refused.
     OutOfMemory,
     /// The input isn't one of those that are served today.
@@ -66,7 +69,8 @@ fn trace_word(fault: TraceFault) -> &'static [u8]
     }
 }
 
-// Adds a line of a front, a number and a word. After an error the list has what it had, and some of the line.
+// Adds a line of a front, a number and a word. After an error the list has what it had, and some of
+// the line.
 fn put_fault(out: &mut Vec<u8>, front: &[u8], n: u64, word: &[u8]) -> Result<(), AllocError>
     ensures ok { OnOk result (out.new.items
         ≡ out.old.items ++ front.now ++ decimal n ++ codes ": " ++ word.now ++ codes "\n") }
@@ -77,6 +81,22 @@ fn put_fault(out: &mut Vec<u8>, front: &[u8], n: u64, word: &[u8]) -> Result<(),
     out.extend_from_slice(digits.format(n).as_bytes())?;
     out.extend_from_slice(b": ")?;
     out.extend_from_slice(word)?;
+    out.extend_from_slice(b"\n")
+}
+
+// Adds the line of a channel whose history met its limit. After an error the list has what it had,
+// and some of the line.
+fn put_limit(out: &mut Vec<u8>, channel: u8, entries: u32) -> Result<(), AllocError>
+    ensures ok { OnOk result (out.new.items
+        ≡ out.old.items ++ codes "history limit on channel " ++ decimal channel ++ codes " at "
+        ++ decimal entries ++ codes "\n") }
+    ensures err { OnErr result (take (length out.old.items) out.new.items ≡ out.old.items) }
+{
+    let mut digits = Buffer::new();
+    out.extend_from_slice(b"history limit on channel ")?;
+    out.extend_from_slice(digits.format(channel).as_bytes())?;
+    out.extend_from_slice(b" at ")?;
+    out.extend_from_slice(digits.format(entries).as_bytes())?;
     out.extend_from_slice(b"\n")
 }
 
@@ -92,6 +112,7 @@ impl Status {
             Status::Trace { .. } => 4,
             Status::ReadFault => 5,
             Status::WriteFault => 6,
+            Status::HistoryLimit { .. } => 7,
             Status::OutOfMemory => 8,
             Status::NotBuilt => 10,
         }
@@ -113,14 +134,15 @@ impl Status {
             }
             Status::ReadFault => out.extend_from_slice(b"read fault\n"),
             Status::WriteFault => out.extend_from_slice(b"write fault\n"),
+            Status::HistoryLimit { channel, length } => put_limit(out, channel, length),
             Status::OutOfMemory => out.extend_from_slice(b"out of memory\n"),
             Status::NotBuilt => out.extend_from_slice(b"not built\n"),
         }
     }
 }
 
-/// Adds the status's text, a whole line or nothing, to the end of `out`, which stays as it is where memory is
-/// refused.
+/// Adds the status's text, a whole line or nothing, to the end of `out`, which stays as it is where
+/// memory is refused.
 pub fn status_text(status: &Status, out: &mut Vec<u8>) -> Result<(), Memory>
     ensures { out.new.items
         ≡ (if is_ok result then out.old.items ++ text_of_status status.now else out.old.items) }

@@ -1,3 +1,5 @@
+mod read_retry;
+
 use crate::{Status, run, status_text};
 use image_file::ImageFault;
 use ssd_geo::Word;
@@ -16,8 +18,8 @@ const IMAGE: [u8; 93] = [
     0x03, 0x00, 0x01, 0x00, 0xff, 0xff, 0x00, 0x00, 0x00, 0x00, 0x00, 0x00, 0x00,
 ];
 
-// The status and the output of a run over the image, with one byte of it changed, and this trace, whose source and sink
-// fail at the listed calls.
+// The status and the output of a run over the image, with one byte of it changed, and this trace,
+// whose source and sink fail at the listed calls.
 fn outcome(
     alloc: Global,
     word: &str,
@@ -196,7 +198,8 @@ fn runs_are_printed_as_worked_out(rt: HostRuntime) -> Result<(), Fail> {
     Ok(())
 }
 
-// A sink that fails from its second call on gets a front of the output; one with room for one byte gets that byte.
+// A sink that fails from its second call on gets a front of the output; one with room for one byte
+// gets that byte.
 #[test]
 fn a_failing_sink_gets_a_front(rt: HostRuntime) -> Result<(), Fail> {
     let (status, output) = outcome(rt.alloc(), "run", SAME, TRACE, 0, 2, 4096)?;
@@ -225,7 +228,9 @@ fn what_is_not_served_writes_nothing(rt: HostRuntime) -> Result<(), Fail> {
     let full =
         b"trace 1 1\n0 write 0 x\n0 write 0 x\n0 write 0 x\n0 write 0 x\n0 write 0 x\n0 write 0 x\n\
 0 write 0 x\n0 write 0 x\n0 write 0 x\n0 write 0 x\n0 write 0 x\n0 write 0 x\n0 write 0 x\n";
-    let table: [(&str, (usize, u8), &[u8], u64, Status); 15] = [
+    // A weak block's record begins with the last bytes of the image.
+    let weak = b"\0\0\0\0\0\0\0\0trace 1 1\n0 read 1\n";
+    let table: [(&str, (usize, u8), &[u8], u64, Status); 14] = [
         ("save", SAME, TRACE, 0, Status::Words),
         ("", SAME, TRACE, 0, Status::Words),
         ("run", SAME, TRACE, 1, Status::ReadFault),
@@ -248,9 +253,8 @@ fn what_is_not_served_writes_nothing(rt: HostRuntime) -> Result<(), Fail> {
             trace(2, TraceFault::Data),
         ),
         ("run", (92, 1), b"", 0, Status::NotBuilt),
-        ("run", (44, 1), TRACE, 0, Status::NotBuilt),
+        ("run", (88, 1), weak, 0, Status::NotBuilt),
         ("run", (49, 0x80), TRACE, 0, image(48, ImageFault::Range)),
-        ("run", (48, 101), TRACE, 0, Status::NotBuilt),
         ("run", SAME, b"trace 1 1\n0 drain 1\n", 0, Status::NotBuilt),
         ("run", SAME, full, 0, Status::NotBuilt),
     ];
@@ -279,6 +283,14 @@ fn each_status_has_its_number_and_text(rt: HostRuntime) -> Result<(), Fail> {
         ),
         (Status::ReadFault, 5, "read fault\n"),
         (Status::WriteFault, 6, "write fault\n"),
+        (
+            Status::HistoryLimit {
+                channel: 0,
+                length: 4_194_300,
+            },
+            7,
+            "history limit on channel 0 at 4194300\n",
+        ),
         (Status::OutOfMemory, 8, "out of memory\n"),
         (Status::NotBuilt, 10, "not built\n"),
     ];

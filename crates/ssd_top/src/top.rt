@@ -1,8 +1,8 @@
-ghost use Rattle.std.specs.Prelude.{◌≡◌, ◌≢◌, ◌⊎◌, [], ◌∷◌, codes};
+ghost use Rattle.std.specs.Prelude.{ℕ, ◌≡◌, ◌≢◌, ◌⊎◌, [], ◌∷◌, None, Some, codes};
 ghost use Rattle.std.specs.Io.KnownBytes.{Appends};
 ghost use Rattle.ssd_geo.specs.Faults.{NeverFell, Rose};
 ghost use Rattle.ssd_io.specs.Pieces.{AppendsFront};
-ghost use Rattle.ssd_top.specs.Serving.{IsCausedByTold, Serves};
+ghost use Rattle.ssd_top.specs.Serving.{IsCausedByTold, IsSilent, Serves, ServesSome};
 
 use crate::Status;
 use crate::serve::serve_input;
@@ -24,32 +24,46 @@ pub fn run<S: Source, O: Sink>(
     ensures command { (result ≡ Status.Words) ⊎ (words.now ≡ codes "run" ∷ []) }
 
     // A fault comes only where its count rose.
-    ensures read_fault { result ≡ Status.ReadFault → Rose (S.faults input.old) (S.faults input.new) }
-    ensures write_fault { result ≡ Status.WriteFault → Rose (O.faults output.old) (O.faults output.new) }
+    ensures read_fault { result ≡ Status.ReadFault
+        → Rose (S.faults input.old) (S.faults input.new) }
+    ensures write_fault { result ≡ Status.WriteFault
+        → Rose (O.faults output.old) (O.faults output.new) }
     ensures reads { NeverFell (S.faults input.old) (S.faults input.new) }
     ensures writes { NeverFell (O.faults output.old) (O.faults output.new) }
 
-    // A fault that is named is the first of what the source had, and what isn't built has its cause in that.
+    // A fault that is named is the first of what the source had, and what isn't built has its cause
+    // in that.
     ensures caused { IsCausedByTold (S.left input.old) result }
 
-    // What the source had is an input that is served. The text, or a front of it, was written of a lawful run of that input: each
-    // call once, in its actor's order, each reply that of its entries, and each page that was recovered the last write's.
-    ensures headline { result ≡ Status.Done → Serves (S.left input.old) (S.left input.new)
+    // What the source had is an input that is served. The text, or a front of it, was written of a
+    // lawful run of that input: each call once, in its actor's order, each reply that of its
+    // entries, and each page that was recovered the last write's. The run is whole, or stopped
+    // where a call found no room in its channel's history.
+    ensures headline { result ≡ Status.Done
+        → Serves (S.left input.old) (S.left input.new) None
         (Appends (O.written output.old) (O.written output.new)) }
-    ensures headline_front { result ≡ Status.WriteFault → Serves (S.left input.old) (S.left input.new)
+    ensures headline_at_limit { (channel entries : ℕ)
+        → result ≡ Status.HistoryLimit channel entries
+        → Serves (S.left input.old) (S.left input.new) (Some (channel, entries))
+        (Appends (O.written output.old) (O.written output.new)) }
+    ensures headline_front { result ≡ Status.WriteFault
+        → ServesSome (S.left input.old) (S.left input.new)
         (AppendsFront (O.written output.old) (O.written output.new)) }
 
     // Else nothing was written.
-    ensures nothing { result ≢ Status.Done → result ≢ Status.WriteFault → output.new ≡ output.old }
+    ensures nothing { IsSilent result → output.new ≡ output.old }
 {
     if !is_run(words) {
         return Status::Words;
     }
     match serve_input(alloc, input) {
-        Ok(mut printed) => match printed.print(output) {
-            Ok(()) => Status::Done,
-            Err(_) => Status::WriteFault,
-        },
+        Ok(mut printed) => {
+            let status = printed.status();
+            match printed.print(output) {
+                Ok(()) => status,
+                Err(_) => Status::WriteFault,
+            }
+        }
         Err(status) => status,
     }
 }

@@ -1,100 +1,83 @@
-use Rattle.ssd_top.proofs.ServedVerbs.{has_look_room, has_step_room, is_between, read_fits, read_goes_on, shape_same, trim_fits, trim_goes_on, write_fits, write_goes_on, write_lacks_room}
+use Rattle.std.proofs.Common.{◌<◌, ◌≤◌, arith, length}
+use Rattle.std.specs.Prelude.{slice_index_or}
+use Rattle.std.proofs.lemmas.Option.{slice_get-get_or}
+use Rattle.ssd_top.specs.Workers.{settings}
+use Rattle.ssd_top.proofs.RunningCalls.{fits, goes_on, low, may_serve, stops}
 use Rattle.ssd_top.proofs.serving.serve_call.Goals as goal
 
--- the row of a write is one of its channel's, its content fits, and the channel has the worker's sizes
-pub write_once-requires-clause-row : goal.write_once-requires-clause-row
-write_once-requires-clause-row g c =
+-- the call's channel is one of the drive's
+pub bounds-channels-channel : goal.bounds-channels-channel
+bounds-channels-channel c =
     let next = c.requires.next in
-    (write_fits g.C.Steps.state c.args.channels.now next.input c.args.worker.now next.done next.replies next.running c.args.call.now next.rest next.are_calls
-    c.in-Write.page c.place_of-channel.result.0 c.place_of-channel.result.1 c.place_of-channel.ensures.channel c.place_of-channel.ensures.row c.index-channels-channel.result
-    c.in-Write.content c.in-Write.is).0
+    low next.input (settings c.args.worker.now) c.args.channels.now next.done next.replies
+    next.running c.args.call.now next.rest next.are_calls
+    c.channel_of-channel.result c.channel_of-channel.ensures
 
-pub write_once-requires-clause-listed : goal.write_once-requires-clause-listed
-write_once-requires-clause-listed g c =
-    let next = c.requires.next in
-    (write_fits g.C.Steps.state c.args.channels.now next.input c.args.worker.now next.done next.replies next.running c.args.call.now next.rest next.are_calls
-    c.in-Write.page c.place_of-channel.result.0 c.place_of-channel.result.1 c.place_of-channel.ensures.channel c.place_of-channel.ensures.row c.index-channels-channel.result
-    c.in-Write.content c.in-Write.is).1
+pub offset_bounds-channels-channel : goal.offset_bounds-channels-channel
+offset_bounds-channels-channel c =
+    let within : c.channel_of-channel.result < length c.args.channels.now =
+    bounds-channels-channel c in
+    let few : length c.args.channels.now ≤ 8 = c.requires.next.running.few_channels in
+    omega (arith, within, few)
 
-pub write_once-requires-clause-shape : goal.write_once-requires-clause-shape
-write_once-requires-clause-shape g c =
+pub overflow_cast-result : goal.overflow_cast-result
+overflow_cast-result c =
     let next = c.requires.next in
-    shape_same g.C.Steps.state c.args.channels.now next.input c.args.worker.now next.done next.replies next.running c.args.call.now next.rest next.are_calls
-    c.in-Write.page c.place_of-channel.result.0 c.place_of-channel.result.1 c.place_of-channel.ensures.channel c.place_of-channel.ensures.row c.index-channels-channel.result
+    let within : c.channel_of-channel.result < length c.args.channels.now =
+    low next.input (settings c.args.worker.now) c.args.channels.now next.done next.replies
+    next.running c.args.call.now next.rest next.are_calls
+    c.channel_of-channel.result c.channel_of-channel.ensures in
+    let few : length c.args.channels.now ≤ 8 = next.running.few_channels in
+    omega (arith, within, few)
 
--- its history has room
-pub unreachable-requires : goal.unreachable-requires
-unreachable-requires g c =
+-- the worker may serve it there, and it fits the drive
+pub call_on-requires-clause-may : goal.call_on-requires-clause-may
+call_on-requires-clause-may c =
     let next = c.requires.next in
-    let refused = rw c.in-Err-HistoryFull.field-0-is at c.in-Err-HistoryFull.ensures.room in
-    refused.0
-    (has_step_room g.C.Steps.state c.args.channels.now next.input c.args.worker.now next.done next.replies next.running c.args.call.now next.rest next.are_calls
-    c.in-Write.page c.place_of-channel.result.0 c.place_of-channel.result.1 c.place_of-channel.ensures.channel c.place_of-channel.ensures.row c.index-channels-channel.result next.few_calls)
+    let within : c.channel_of-channel.result < length c.args.channels.now =
+    low next.input (settings c.args.worker.now) c.args.channels.now next.done next.replies
+    next.running c.args.call.now next.rest next.are_calls
+    c.channel_of-channel.result c.channel_of-channel.ensures in
+    may_serve next.input (settings c.args.worker.now) c.args.channels.now next.done next.replies
+    next.running c.args.call.now next.rest next.are_calls
+    c.channel_of-channel.result (slice_index_or c.args.channels.now c.channel_of-channel.result
+    c.index-channels-channel.result)
+    (slice_get-get_or c.args.channels.now c.channel_of-channel.result
+    c.index-channels-channel.result within) c.channel_of-channel.ensures
 
--- the row of a read is one of its channel's, which is between two calls, and the history has room
-pub read-requires-clause-row : goal.read-requires-clause-row
-read-requires-clause-row g c =
+pub call_on-requires-clause-fits : goal.call_on-requires-clause-fits
+call_on-requires-clause-fits c =
     let next = c.requires.next in
-    read_fits g.C.Steps.state c.args.channels.now next.input c.args.worker.now next.done next.replies next.running c.args.call.now next.rest next.are_calls
-    c.in-Read.page c.place_of-channel-in-Read.result.0 c.place_of-channel-in-Read.result.1 c.place_of-channel-in-Read.ensures.channel c.place_of-channel-in-Read.ensures.row c.index-channels-channel-in-Read.result
-    c.in-Read.is
-
-pub read-requires-clause-between : goal.read-requires-clause-between
-read-requires-clause-between g c =
-    let next = c.requires.next in
-    is_between g.C.Steps.state c.args.channels.now next.input c.args.worker.now next.done next.replies next.running c.args.call.now next.rest next.are_calls
-    c.in-Read.page c.place_of-channel-in-Read.result.0 c.place_of-channel-in-Read.result.1 c.place_of-channel-in-Read.ensures.channel c.place_of-channel-in-Read.ensures.row c.index-channels-channel-in-Read.result
-
-pub unreachable-requires-in-Err-HistoryFull-read :
-    goal.unreachable-requires-in-Err-HistoryFull-read
-unreachable-requires-in-Err-HistoryFull-read g c =
-    let next = c.requires.next in
-    let refused = rw c.in-Err-HistoryFull-read.field-0-is at c.in-Err-HistoryFull-read.ensures.full in
-    refused
-    (has_look_room g.C.Steps.state c.args.channels.now next.input c.args.worker.now next.done next.replies next.running c.args.call.now next.rest next.are_calls
-    c.in-Read.page c.place_of-channel-in-Read.result.0 c.place_of-channel-in-Read.result.1 c.place_of-channel-in-Read.ensures.channel c.place_of-channel-in-Read.ensures.row c.index-channels-channel-in-Read.result next.few_calls)
-
--- so are a trim's
-pub trim-requires : goal.trim-requires
-trim-requires g c =
-    let next = c.requires.next in
-    trim_fits g.C.Steps.state c.args.channels.now next.input c.args.worker.now next.done next.replies next.running c.args.call.now next.rest next.are_calls
-    c.in-Trim.page c.place_of-channel-in-Trim.result.0 c.place_of-channel-in-Trim.result.1 c.place_of-channel-in-Trim.ensures.channel c.place_of-channel-in-Trim.ensures.row c.index-channels-channel-in-Trim.result
-    c.in-Trim.is
-
-pub unreachable-requires-in-Err-HistoryFull-trim :
-    goal.unreachable-requires-in-Err-HistoryFull-trim
-unreachable-requires-in-Err-HistoryFull-trim g c =
-    let next = c.requires.next in
-    let refused = rw c.in-Err-HistoryFull-trim.field-0-is at c.in-Err-HistoryFull-trim.ensures.room in
-    refused.0
-    (has_step_room g.C.Steps.state c.args.channels.now next.input c.args.worker.now next.done next.replies next.running c.args.call.now next.rest next.are_calls
-    c.in-Trim.page c.place_of-channel-in-Trim.result.0 c.place_of-channel-in-Trim.result.1 c.place_of-channel-in-Trim.ensures.channel c.place_of-channel-in-Trim.ensures.row c.index-channels-channel-in-Trim.result next.few_calls)
+    fits next.input (settings c.args.worker.now) c.args.channels.now next.done next.replies
+    next.running c.args.call.now next.rest next.are_calls
 
 -- each run goes on with what was served
-pub returns-in-Ok-Written-clause-ok : goal.returns-in-Ok-Written-clause-ok
-returns-in-Ok-Written-clause-ok g c input done rest replies running split =
-    write_goes_on g.C.Steps.state c.args.channels.now input c.args.worker.now done replies running c.args.call.now rest split
-    c.in-Write.page c.place_of-channel.result.0 c.place_of-channel.result.1 c.place_of-channel.ensures.channel c.place_of-channel.ensures.row c.index-channels-channel.result
-    c.in-Write.content c.write_once.new.channel c.in-Ok-Written.field-0-0 c.in-Write.is
-    (rw c.in-Ok-Written.field-0-is at c.in-Ok-Written.ensures.ok) c.in-Ok-Written.ensures.stands
-
--- a write that needs room meets none
-pub returns-in-Ok-NeedRoom-clause-no_room : goal.returns-in-Ok-NeedRoom-clause-no_room
-returns-in-Ok-NeedRoom-clause-no_room g c stops input done rest replies running split =
-    write_lacks_room g.C.Steps.state c.args.channels.now input c.args.worker.now done replies running c.args.call.now rest split
-    c.in-Write.page c.place_of-channel.result.0 c.place_of-channel.result.1 c.place_of-channel.ensures.channel c.place_of-channel.ensures.row c.index-channels-channel.result
-    c.in-Write.content (g.C.Steps.state c.write_once.new.channel) c.in-Write.is
-    (rw c.in-Ok-NeedRoom.field-0-is at c.in-Ok-NeedRoom.ensures.ok)
-
 pub returns-in-Ok-clause-ok : goal.returns-in-Ok-clause-ok
-returns-in-Ok-clause-ok g c input done rest replies running split =
-    read_goes_on g.C.Steps.state c.args.channels.now input c.args.worker.now done replies running c.args.call.now rest split
-    c.in-Read.page c.place_of-channel-in-Read.result.0 c.place_of-channel-in-Read.result.1 c.place_of-channel-in-Read.ensures.channel c.place_of-channel-in-Read.ensures.row c.index-channels-channel-in-Read.result
-    c.read.new.channel c.in-Ok.reply c.in-Read.is c.in-Ok.ensures.ok
+returns-in-Ok-clause-ok c input done rest replies running split =
+    let within : c.channel_of-channel.result < length c.args.channels.now =
+    low input (settings c.args.worker.now) c.args.channels.now done replies running c.args.call.now
+    rest split
+    c.channel_of-channel.result c.channel_of-channel.ensures in
+    goes_on input (settings c.args.worker.now) c.args.channels.now done replies running
+    c.args.call.now rest split
+    c.channel_of-channel.result (slice_index_or c.args.channels.now c.channel_of-channel.result
+    c.index-channels-channel.result)
+    (slice_get-get_or c.args.channels.now c.channel_of-channel.result
+    c.index-channels-channel.result within) c.channel_of-channel.ensures
+    c.call_on.new.channel c.in-Ok.reply c.in-Ok.ensures.ok
 
-pub returns-in-Ok-trim-clause-ok : goal.returns-in-Ok-trim-clause-ok
-returns-in-Ok-trim-clause-ok g c input done rest replies running split =
-    trim_goes_on g.C.Steps.state c.args.channels.now input c.args.worker.now done replies running c.args.call.now rest split
-    c.in-Trim.page c.place_of-channel-in-Trim.result.0 c.place_of-channel-in-Trim.result.1 c.place_of-channel-in-Trim.ensures.channel c.place_of-channel-in-Trim.ensures.row c.index-channels-channel-in-Trim.result
-    c.trim.new.self c.in-Trim.is c.in-Ok-trim.ensures.ok c.in-Ok-trim.ensures.stands
+-- and stops where the history of its channel had no room
+pub returns-in-Err-HistoryFull-clause-full : goal.returns-in-Err-HistoryFull-clause-full
+returns-in-Err-HistoryFull-clause-full c input done rest replies running split =
+    let within : c.channel_of-channel.result < length c.args.channels.now =
+    low input (settings c.args.worker.now) c.args.channels.now done replies running c.args.call.now
+    rest split
+    c.channel_of-channel.result c.channel_of-channel.ensures in
+    stops input (settings c.args.worker.now) c.args.channels.now done replies running
+    c.args.call.now rest split
+    c.channel_of-channel.result (slice_index_or c.args.channels.now c.channel_of-channel.result
+    c.index-channels-channel.result)
+    (slice_get-get_or c.args.channels.now c.channel_of-channel.result
+    c.index-channels-channel.result within) c.channel_of-channel.ensures
+    c.call_on.new.channel c.in-Err-HistoryFull.length
+    (rw c.in-Err-HistoryFull.field-0-is at c.in-Err-HistoryFull.ensures.full)

@@ -2,7 +2,7 @@ use Rattle.std.proofs.Common.{ℕ, ◌≡◌, ◌++◌, List, OnOk, codes, decim
 use Rattle.ssd_geo.specs.InputFaults.{image_fault_word, trace_fault_word}
 use Rattle.image_file.specs.Gives.{named_fault as image_fault}
 use Rattle.trace_text.specs.Answers.{named_fault as trace_fault}
-use Rattle.ssd_top.proofs.FaultTexts.{fault_line}
+use Rattle.ssd_top.proofs.FaultTexts.{fault_line, limit_line}
 use Rattle.ssd_top.proofs.status.Status.put.Goals as goal
 
 pub returns-in-Image-clause-ok : goal.returns-in-Image-clause-ok
@@ -20,3 +20,9 @@ returns-in-Trace-clause-ok c =
     (ap (λ (w : List ℕ). c.args.out.now.items ++ codes "trace fault in line " ++ decimal c.in-Trace.line ++ codes ": " ++ w ++ codes "\n") word
     ∙ fault_line c.args.out.now.items (codes "trace fault in line") (decimal c.in-Trace.line) (trace_fault_word (trace_fault c.in-Trace.fault)))
     c.put_fault-in-Trace.ensures.ok)
+
+pub returns-in-HistoryLimit-clause-ok : goal.returns-in-HistoryLimit-clause-ok
+returns-in-HistoryLimit-clause-ok c =
+    rw c.in-HistoryLimit.is (subst (λ (text : List ℕ). OnOk c.put_limit.result (c.put_limit.new.out.items ≡ text))
+    (limit_line c.args.out.now.items (codes "history limit on channel") (decimal c.in-HistoryLimit.channel) (codes "at") (decimal c.in-HistoryLimit.length))
+    c.put_limit.ensures.ok)
