@@ -1,3 +1,11 @@
 pub mod Chains
 pub mod TextPieces
 pub mod Counting
+pub mod Cutting
+pub mod NumberWords
+pub mod AddressWords
+pub mod StepParts
+pub mod RowWords
+pub mod LineCuts
+pub mod EntryWords
+pub mod HistorySteps

@@ -3,3 +3,6 @@ pub mod WordText
 pub mod TextParts
 pub mod Places
 pub mod SummaryText
+pub mod Pieces
+pub mod StepWords
+pub mod LinesLeft

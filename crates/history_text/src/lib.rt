@@ -1,16 +1,21 @@
-//! What a run prints: the histories, the replies and the summary of counts, line by line. It knows no channel.
+//! What a run prints: the histories, the replies and the summary of counts, line by line; and histories read
+//! back from their lines. It knows no channel.
 #![tactic(auto)]
 
 mod call_counts;
 mod counts;
 mod entries;
+mod fault;
 mod put;
 mod put_words;
+mod read;
 mod replies;
 mod run;
 mod summary;
 mod word;
 
+pub use fault::HistoryFault;
+pub use read::read_history;
 pub use run::print_run;
 
 #[cfg(test)]

@@ -12,6 +12,8 @@ use std::alloc::Global;
 use std::process::Abort;
 use std::test::Fail;
 
+mod reading;
+
 // The head of an image with 1 channel, pages of 8 data bytes and the read levels 0 and -60.
 fn small_head(alloc: Global) -> Result<ImageHead, Fail>
     ensures { IfOk result (λ head. length head.read_levels ≡ 2) }
