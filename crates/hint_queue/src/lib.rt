@@ -1,0 +1,9 @@
+//! The queue of pages that asked for a refresh, as the serial command keeps it. It knows neither the reads that
+//! ask nor the drains that take.
+#![tactic(auto)]
+
+mod hint_list;
+#[cfg(test)]
+mod tests;
+
+pub use hint_list::HintList;
