@@ -1,0 +1,5 @@
+mod LineParts
+mod Ranges
+mod RowSteps
+mod WorkParts
+mod WriteSteps

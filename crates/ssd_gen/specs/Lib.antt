@@ -1,0 +1,5 @@
+pub mod HeadParts
+pub mod LineText
+pub mod RowWords
+pub mod TraceParts
+pub mod Writes
