@@ -1,0 +1,5 @@
+"""A plain simulation of what `ssd run` prints.
+
+It is written from the formats and rules of docs/, slowly and apart from the program, and shares nothing
+with it.
+"""

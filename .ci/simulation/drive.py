@@ -1,0 +1,226 @@
+"""The channels of a blank drive: cells, page map, the ladder of read retry, and histories."""
+import struct
+from collections import Counter
+
+from .code import Code
+from .random_words import words_of
+
+SOFT_VALUES = (-96, -48, -16, 16, 48, 96)
+# A look sets aside this many entries of its history.
+LOOK_ENTRIES = 256
+
+
+def hard_values(sense, count):
+    return [-32 if sense >> i & 1 else 32 for i in range(count)]
+
+
+def soft_values(senses, count):
+    """The value of each cell, by how many of five senses give 0."""
+    return [SOFT_VALUES[5 - sum([sense >> i & 1 for sense in senses])] for i in range(count)]
+
+
+class HistoryLimit(Exception):
+    """A step that found no room in the history of a channel."""
+
+    def __init__(self, channel, length):
+        super().__init__(channel, length)
+        self.channel, self.length = channel, length
+
+
+class Cells:
+    """The cell levels of a channel's programmed pages, each under its place: die, superblock, page."""
+
+    def __init__(self, head, channel):
+        self.head, self.channel, self.levels = head, channel, {}
+        self.count = head.lifting * head.column_count
+
+    def program(self, place, word):
+        head, (die, sb, page) = self.head, place
+        number = ((self.channel * head.dies + die) * head.superblocks + sb) * head.pages + page
+        noise = words_of((head.seed + number * 2 ** 32) % 2 ** 64)
+        levels = []
+        while len(levels) < self.count:
+            four = next(noise)
+            for lane in range(min(4, self.count - len(levels))):
+                level = head.erased if word >> len(levels) & 1 else head.programmed
+                u = four >> 16 * lane & 0xffff
+                levels.append(level + u % (2 * head.spread + 1) - head.spread)
+        self.levels[place] = levels
+
+    def age(self, die, sb, amount):
+        erased = self.head.erased
+        for place, levels in self.levels.items():
+            if place[:2] == (die, sb):
+                levels[:] = [max(erased, g - amount) if g > erased else g for g in levels]
+
+    def sense(self, place, level):
+        return int("".join(["1" if g < level else "0" for g in reversed(self.levels[place])]), 2)
+
+
+class Ladder:
+    """One reading of a page by read retry: the senses that it asked, and what it came to."""
+
+    def __init__(self, head, code, cells, events):
+        self.head, self.code, self.cells, self.events = head, code, cells, events
+        self.asks = []
+
+    def sense(self, place, level):
+        self.asks.append((place, level))
+        return self.cells.sense(place, level)
+
+    def searched(self, place, accepts):
+        """What the read levels and then the soft senses find at a place: rung and word, or None."""
+        failed = []
+        for rung, level in enumerate(self.head.read_levels):
+            raw = self.sense(place, level)
+            found = self.code.decode(hard_values(raw, self.code.bits), self.head.iterations)
+            if self.is_accepted(found, accepts):
+                return rung, found[1]
+            failed.append(self.code.failed_checks(raw))
+        centre = failed.index(min(failed))
+        self.events["a later level has the fewest failed checks"] += centre > 0
+        level, step = self.head.read_levels[centre], self.head.soft_step
+        senses = [self.sense(place, level + n * step) for n in (-2, -1, 0, 1, 2)]
+        found = self.code.decode(soft_values(senses, self.code.bits), self.head.iterations)
+        if self.is_accepted(found, accepts):
+            return len(self.head.read_levels), found[1]
+        return None
+
+    def is_accepted(self, found, accepts):
+        if found is None:
+            return False
+        self.events["a word is found after iterations"] += found[0] > 0
+        self.events["a codeword isn't of the page"] += not accepts(found[1])
+        return accepts(found[1])
+
+    def recovered(self, place, expected, closed):
+        """The rung and the word of the page at a place, or None where it can't be recovered."""
+        found = self.searched(place, expected)
+        if found is not None:
+            kind = "soft senses" if found[0] == len(self.head.read_levels) else "a read level"
+            self.events[f"recovered by {kind if found[0] else 'the first read level'}"] += 1
+            return found
+        if not closed:
+            self.events["uncorrectable in an open stripe"] += 1
+            return None
+        die, sb, page = place
+        total = 0
+        for other in range(self.head.dies):
+            if other != die:
+                found = self.searched((other, sb, page), lambda word: True)
+                if found is None:
+                    self.events["uncorrectable in a closed stripe: a page has no codeword"] += 1
+                    return None
+                self.events["a page of the stripe needed more than one level"] += found[0] > 0
+                total ^= found[1]
+        if not expected(total):
+            self.events["uncorrectable in a closed stripe: the sum isn't the page"] += 1
+            return None
+        self.events["recovered by the stripe"] += 1
+        return len(self.head.read_levels) + 1, total
+
+
+class Channel:
+    def __init__(self, head, code, number, limit, events):
+        self.head, self.code, self.number, self.limit = head, code, number, limit
+        self.events = events
+        self.cells = Cells(head, number)
+        self.lines, self.kinds = [], Counter()
+        self.rows = {}
+        self.free, self.frontier, self.used = head.good(number), None, Counter()
+        self.stripe_sum = 0
+        self.ladders = {}
+
+    def add(self, tag, kind, text):
+        self.kinds[kind] += 1
+        self.lines.append(f"{len(self.lines)} {tag} {kind} {text}\n")
+
+    def need_room(self, entries):
+        if len(self.lines) + entries > self.limit:
+            raise HistoryLimit(self.number, len(self.lines))
+
+    def place_of(self, sb, index):
+        """The die, superblock and page of a slot, and the die of its stripe's parity."""
+        stripe, n = divmod(index, self.head.dies - 1)
+        parity = (sb + stripe) % self.head.dies
+        return (n if n < parity else n + 1, sb, stripe), parity
+
+    def is_closed(self, sb, index):
+        width = self.head.dies - 1
+        return (index // width + 1) * width <= self.used[sb]
+
+    def start_of(self, row, serial):
+        """The payload before the data."""
+        return struct.pack("<QI", serial, row) + b"PGE1"
+
+    def next_slot(self):
+        if self.frontier is None:
+            self.frontier = self.free.pop(0)
+        sb, index = self.frontier, self.used[self.frontier]
+        self.used[sb] += 1
+        if self.used[sb] == self.head.slots:
+            self.frontier = None
+        return sb, index
+
+    def write(self, tag, row, serial, data):
+        self.need_room(1)
+        sb, index = self.next_slot()
+        word = self.code.word_of(int.from_bytes(self.start_of(row, serial) + data, "little"))
+        place, parity = self.place_of(sb, index)
+        self.cells.program(place, word)
+        self.stripe_sum ^= word
+        if self.is_closed(sb, index):
+            self.cells.program((parity, *place[1:]), self.stripe_sum)
+            self.stripe_sum = 0
+        self.rows[row] = (sb, index, serial)
+        self.ladders.clear()
+        self.add(tag, "write", f"{row} {sb}.{index}")
+        return "ok"
+
+    def trim(self, tag, row):
+        self.need_room(1)
+        self.rows.pop(row, None)
+        self.add(tag, "trim", row)
+        return "ok"
+
+    def age(self, tag, die, sb, amount):
+        self.need_room(1)
+        self.cells.age(die, sb, amount)
+        self.ladders.clear()
+        self.add(tag, "age", f"{die}.{sb} {amount}")
+        return "ok"
+
+    def read(self, tag, row):
+        self.need_room(LOOK_ENTRIES)
+        if row not in self.rows:
+            self.add(tag, "look", f"{row} empty")
+            return "empty"
+        at, (sb, index, serial) = len(self.lines), self.rows[row]
+        state = "closed" if self.is_closed(sb, index) else "open"
+        self.add(tag, "look", f"{row} page {sb}.{index} {serial} {state}")
+        asks, reply = self.ladder(row)
+        self.kinds["sense"] += len(asks)
+        first = len(self.lines)
+        self.lines += [f"{n} {tag} sense {at} {ask}\n" for n, ask in enumerate(asks, first)]
+        self.add(tag, "leave", at)
+        return reply
+
+    def ladder(self, row):
+        """The senses and the reply of a read. Until the next write or ageing they stay the same."""
+        if row not in self.ladders:
+            sb, index, serial = self.rows[row]
+            ladder = Ladder(self.head, self.code, self.cells, self.events)
+            start, end = self.start_of(row, serial), 16 + self.head.data_bytes
+
+            def is_the_page(word):
+                payload = self.code.message_of(word)
+                return payload[:16] == start and not any(payload[end:])
+
+            place, _ = self.place_of(sb, index)
+            found = ladder.recovered(place, is_the_page, self.is_closed(sb, index))
+            reply = "uncorrectable"
+            if found is not None:
+                reply = f"data {found[0]} {self.code.message_of(found[1])[16:end].hex()}"
+            asks = [f"{die}.{block}.{page} {level}" for (die, block, page), level in ladder.asks]
+            self.ladders[row] = asks, reply
+        return self.ladders[row]

@@ -1,0 +1,121 @@
+"""Worked examples of runs, with their output written out, and of single rules."""
+from .code import Code, told
+from .drive import hard_values, soft_values
+from .random_words import words_of
+
+# One channel of three dies and four superblocks of two pages; two read levels, no noise; eight rows, of
+# eight data bytes each.
+IMAGE = bytes.fromhex(
+    "53534449 4d473031 01 03 0400 0200 4000 03 06 02 08"
+    "08000000 08000000 0100000000000000 00000000"
+    "9cff 6400 0000 0a00"
+    "0000 c4ff"
+    "0000 0100 ffff 0100 0000 ffff"
+    "0500 ffff 0700 0000 0000 0000"
+    "ffff 0b00 0300 0100 ffff 0000"
+    "0000 0000 00"
+)
+
+
+def changed(at, new):
+    return IMAGE[:at] + new + IMAGE[at + len(new):]
+
+
+def trace(*lines):
+    return "".join(line + "\n" for line in ("trace 1 1", *lines)).encode()
+
+
+def numbered(name, lines):
+    return [f"{name} {len(lines)}", *(f"{n} {line}" for n, line in enumerate(lines))]
+
+
+def text(entries, replies, writes="0 0 0 0", reads="0 0 0 0", trims=0, senses=0, rungs="0 0 0 0",
+         hints="0 0 0"):
+    """The output of a run with one actor; `entries` has a list for each channel."""
+    lines = []
+    for channel, listed in enumerate(entries):
+        lines += numbered(f"channel {channel}", listed)
+    lines += numbered("actor 0", replies)
+    lines += ["summary", f"write {writes}", f"read {reads}", f"trim {trims}"]
+    lines += ["move 0 condemn 0 changed 0 stay 0", "pick 0 erase 0 bad 0 fault 0"]
+    lines += [f"sense {senses}", f"rung {rungs}", f"hint {hints}", "end"]
+    return "".join(line + "\n" for line in lines)
+
+
+def senses(tag, look, place, *levels):
+    return [f"{tag} sense {look} {place} {level}" for level in levels]
+
+
+# What each row shows, its input, its status, its output, and its text on standard error.
+ROWS = [
+    ("one page is written and read", IMAGE + trace("0 write 5 x0102", "0 read 5"), 0, text(
+        [["0.0 write 5 0.0", "0.1 look 5 page 0.0 0 open", "0.1 sense 1 1.0.0 0", "0.1 leave 1"]],
+        ["ok", "data 0 0102000000000000"],
+        writes="1 0 0 0", reads="1 0 0 0", senses=1, rungs="1 0 0 0"), ""),
+    ("no calls", IMAGE + trace(), 0, text([[]], []), ""),
+    ("a trimmed page is empty",
+     IMAGE + trace("0 read 3", "0 write 3 x07", "0 trim 3", "0 read 3"), 0, text(
+        [["0.0 look 3 empty", "0.1 write 3 0.0", "0.2 trim 3", "0.3 look 3 empty"]],
+        ["empty", "ok", "ok", "empty"],
+        writes="1 0 0 0", reads="0 2 0 0", trims=1), ""),
+    ("the last of two writes is read",
+     IMAGE + trace("0 write 3 x01", "0 write 3 x02", "0 read 3"), 0, text(
+        [["0.0 write 3 0.0", "0.1 write 3 0.1",
+          "0.2 look 3 page 0.1 1 closed", "0.2 sense 2 2.0.0 0", "0.2 leave 2"]],
+        ["ok", "ok", "data 0 0200000000000000"],
+        writes="2 0 0 0", reads="1 0 0 0", senses=1, rungs="1 0 0 0"), ""),
+    ("an aged page is read at the second level",
+     IMAGE + trace("0 write 0 x09", "0 age 0 1 0 150", "0 read 0"), 0, text(
+        [["0.0 write 0 0.0", "0.1 age 1.0 150", "0.2 look 0 page 0.0 0 open",
+          *senses("0.2", 2, "1.0.0", 0, -60), "0.2 leave 2"]],
+        ["ok", "ok", "data 1 0900000000000000"],
+        writes="1 0 0 0", reads="1 0 0 0", senses=2, rungs="0 1 0 0", hints="1 0 0"), ""),
+    ("a lost page is recovered by its stripe",
+     IMAGE + trace("0 write 0 x01", "0 write 1 x02", "0 age 0 1 0 200", "0 read 0"), 0, text(
+        [["0.0 write 0 0.0", "0.1 write 1 0.1", "0.2 age 1.0 200", "0.3 look 0 page 0.0 0 closed",
+          *senses("0.3", 3, "1.0.0", 0, -60, -20, -10, 0, 10, 20),
+          *senses("0.3", 3, "0.0.0", 0), *senses("0.3", 3, "2.0.0", 0), "0.3 leave 3"]],
+        ["ok", "ok", "ok", "data 3 0100000000000000"],
+        writes="2 0 0 0", reads="1 0 0 0", senses=9, rungs="0 0 0 1", hints="1 0 0"), ""),
+    ("a lost page of an open stripe is uncorrectable",
+     IMAGE + trace("0 write 0 x01", "0 age 0 1 0 200", "0 read 0"), 0, text(
+        [["0.0 write 0 0.0", "0.1 age 1.0 200", "0.2 look 0 page 0.0 0 open",
+          *senses("0.2", 2, "1.0.0", 0, -60, -20, -10, 0, 10, 20), "0.2 leave 2"]],
+        ["ok", "ok", "uncorrectable"],
+        writes="1 0 0 0", reads="0 0 1 0", senses=7), ""),
+    ("an odd page belongs to the second of two channels",
+     changed(8, b"\2") + trace("0 write 3 x00"), 0, text(
+        [[], ["0.0 write 1 0.0"]], ["ok"], writes="1 0 0 0"), ""),
+    ("a page out of range", IMAGE + trace("0 write 8 x00"), 4, "",
+     "trace fault in line 2: range\n"),
+    ("the last page", IMAGE + trace("0 write 7 x00"), 0, text(
+        [["0.0 write 7 0.0"]], ["ok"], writes="1 0 0 0"), ""),
+    ("an image that ends early", IMAGE[:20], 3, "", "image fault at 20: short\n"),
+    ("no input", b"", 3, "", "image fault at 0: short\n"),
+    ("a base matrix without the dual diagonal", changed(60, b"\1\0") + trace(), 3, "",
+     "image fault at 60: diagonal\n"),
+]
+
+
+def wrong_parts():
+    """What differs from worked examples of single rules."""
+    code = Code(4, [(0, -1, 1, 0, -1), (-1, 2, 0, 0, 0), (3, 0, 1, -1, 0)])
+    word, flipped = 0x0b8301, 0x0b8300
+    first = next(words_of(0))
+    cells = (-100, 5, 20)
+    sensed = lambda level: sum((cell < level) << i for i, cell in enumerate(cells))
+    five = [sensed(level) for level in (-20, -10, 0, 10, 20)]
+    noise = [(first >> 16 * cell & 0xffff) % 7 - 3 for cell in range(4)]
+    cases = [
+        ("the word of a message", code.word_of(1), word),
+        ("a row of three edges", told([10, -4, 7]), [-3, 5, -3]),
+        ("a row with a zero", told([0, -5]), [-3, 0]),
+        ("a row of the greatest values", told([127, 127]), [95, 95]),
+        ("the failed checks of one wrong bit", code.failed_checks(flipped), 2),
+        ("one wrong bit", code.decode(hard_values(flipped, 20), 1), (1, word)),
+        ("no wrong bit", code.decode(hard_values(word, 20), 8), (0, word)),
+        ("the first word of noise", first, 0xe220a8397b1dcdaf),
+        ("the noise of four cells", noise, [-2, 0, -2, 2]),
+        ("soft values", soft_values(five, len(cells)), [-96, 16, 96]),
+    ]
+    return [f"{what}: {got}, and {due} is due" for what, got, due in cases if got != due]
