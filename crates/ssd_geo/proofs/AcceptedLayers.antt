@@ -10,12 +10,12 @@ use Rattle.std.proofs.lemmas.List.{length-map}
 use Rattle.std.proofs.lemmas.List.FromFn.{get_or-range_with_len, length-range_with_len}
 use Rattle.std.proofs.lemmas.Bool.Decides.{Decides-int_eq, nat_tests}
 use Rattle.std.proofs.lemmas.Nat.{div-mul-add, mod-mul-add, mul-add-lt}
-use Rattle.ssd_geo.specs.BaseMatrix.{BaseMatrix, IsAccepted, block_of, is_in_range, layer_of, entry_at, message_columns, parity_entry, range_fault, column_fault, diagonal_fault, diagonal_entry, breaks_parity_column, zero_block, first_fault}
+use Rattle.ssd_geo.specs.BaseMatrix.{BaseMatrix, IsAccepted, block_of_entry, is_entry_in_range, layer_of, entry_at, message_columns, parity_entry, range_fault, column_fault, diagonal_fault, diagonal_entry, breaks_parity_column, zero_block, first_fault}
 use Rattle.ssd_geo.specs.LayerNumbers.{IsLayer}
 
 -- the blocks that entries make in the n columns from `first` on
 abbrev blocks_from : (ℕ → ℤ) → ℕ → ℕ → List (ℕ × ℕ)
-blocks_from entry first n = filter_map (λ column. block_of column (entry column)) (range_with_len first n)
+blocks_from entry first n = filter_map (λ column. block_of_entry column (entry column)) (range_with_len first n)
 
 -- a block's column is in a range, and its shift is below the lifting size
 record IsBlock (z first end : ℕ) (block : ℕ × ℕ) : Type 0 where
@@ -29,17 +29,17 @@ data Rising : ℕ → List (ℕ × ℕ) → Type 0 where
   rising_more : (first : ℕ) (block : ℕ × ℕ) (blocks : List (ℕ × ℕ)) → first ≤ block.0 → Rising (block.0 + 1) blocks → Rising first (block ∷ blocks)
 
 -- one entry in front
-All-block : (P : ℕ × ℕ → Type 0) (column : ℕ) (entry : ℤ) (rest : List (ℕ × ℕ)) → All P rest → ((shift : ℕ) → entry ≡ pos shift → P (column, shift)) → All P (cons_option (block_of column entry) rest)
+All-block : (P : ℕ × ℕ → Type 0) (column : ℕ) (entry : ℤ) (rest : List (ℕ × ℕ)) → All P rest → ((shift : ℕ) → entry ≡ pos shift → P (column, shift)) → All P (cons_option (block_of_entry column entry) rest)
 All-block P column (pos shift) rest h k = All-cons P (column, shift) rest (k shift refl) h
 All-block P column (negsuc n) rest h k = h
 
-shift_in_range : (z : ℕ) (entry : ℤ) (shift : ℕ) → is_in_range z entry ≡ true → entry ≡ pos shift → shift < z
+shift_in_range : (z : ℕ) (entry : ℤ) (shift : ℕ) → is_entry_in_range z entry ≡ true → entry ≡ pos shift → shift < z
 shift_in_range z (pos s) shift h e =
     let same : s ≡ shift = cc in
     grind (arith, nat_tests)
 shift_in_range z (negsuc n) shift h e = absurd (cc)
 
-blocks_are : (z end : ℕ) (entry : ℕ → ℤ) (first n : ℕ) → first + n ≡ end → ((column : ℕ) → column < end → is_in_range z (entry column) ≡ true) → All (IsBlock z first end) (blocks_from entry first n)
+blocks_are : (z end : ℕ) (entry : ℕ → ℤ) (first n : ℕ) → first + n ≡ end → ((column : ℕ) → column < end → is_entry_in_range z (entry column) ≡ true) → All (IsBlock z first end) (blocks_from entry first n)
 blocks_are z end entry first zero e h = All-nil (IsBlock z first end)
 blocks_are z end entry first (suc n) e h =
     let rest = blocks_from entry (first + 1) n in
@@ -52,7 +52,7 @@ rising_down : (first : ℕ) (blocks : List (ℕ × ℕ)) → Rising (first + 1) 
 rising_down first [] h = rising_none first
 rising_down first (b ∷ blocks) (rising_more f b' bs low more) = rising_more first b blocks (omega arith) more
 
-rising_block : (column : ℕ) (entry : ℤ) (rest : List (ℕ × ℕ)) → Rising (column + 1) rest → Rising column (cons_option (block_of column entry) rest)
+rising_block : (column : ℕ) (entry : ℤ) (rest : List (ℕ × ℕ)) → Rising (column + 1) rest → Rising column (cons_option (block_of_entry column entry) rest)
 rising_block column (pos shift) rest h = rising_more column (column, shift) rest (omega arith) h
 rising_block column (negsuc n) rest h = rising_down column rest h
 
@@ -76,15 +76,15 @@ strictly first (b ∷ blocks) (rising_more f b' bs low more) (suc k) l =
     subst (λ (n : ℕ). get_or columns (suc k) 0 < get_or columns n 0) next (strictly (b.0 + 1) blocks more k (omega arith))
 
 -- a block in front makes the list one longer, where there is one
-longer : (column : ℕ) (entry : ℤ) (rest : List (ℕ × ℕ)) → length rest ≤ length (cons_option (block_of column entry) rest)
+longer : (column : ℕ) (entry : ℤ) (rest : List (ℕ × ℕ)) → length rest ≤ length (cons_option (block_of_entry column entry) rest)
 longer column (pos shift) rest = omega arith
 longer column (negsuc n) rest = omega arith
 
-no_longer : (column : ℕ) (entry : ℤ) (rest : List (ℕ × ℕ)) → length (cons_option (block_of column entry) rest) ≤ suc (length rest)
+no_longer : (column : ℕ) (entry : ℤ) (rest : List (ℕ × ℕ)) → length (cons_option (block_of_entry column entry) rest) ≤ suc (length rest)
 no_longer column (pos shift) rest = omega arith
 no_longer column (negsuc n) rest = omega arith
 
-longer_by_one : (column : ℕ) (entry : ℤ) (shift : ℕ) (rest : List (ℕ × ℕ)) → entry ≡ pos shift → length rest + 1 ≤ length (cons_option (block_of column entry) rest)
+longer_by_one : (column : ℕ) (entry : ℤ) (shift : ℕ) (rest : List (ℕ × ℕ)) → entry ≡ pos shift → length rest + 1 ≤ length (cons_option (block_of_entry column entry) rest)
 longer_by_one column (pos s) shift rest e = omega arith
 longer_by_one column (negsuc n) shift rest e = absurd (cc)
 
@@ -152,9 +152,9 @@ not_false : (b : Bool) → not b ≡ false → b ≡ true
 not_false true h = refl
 not_false false h = absurd (false≢true (sym h))
 
-pub entries_in_range : (m : BaseMatrix) → IsAccepted m → (i column : ℕ) → i < m.mb → column < m.nb → is_in_range m.z (entry_at m i column) ≡ true
+pub entries_in_range : (m : BaseMatrix) → IsAccepted m → (i column : ℕ) → i < m.mb → column < m.nb → is_entry_in_range m.z (entry_at m i column) ≡ true
 entries_in_range m h i column in_rows in_columns =
-    let at = λ (k : ℕ). not (is_in_range m.z (entry_at m (k / m.nb) (k % m.nb))) in
+    let at = λ (k : ℕ). not (is_entry_in_range m.z (entry_at m (k / m.nb) (k % m.nb))) in
     let place = i * m.nb + column in
     let in_matrix : place < m.mb * m.nb = omega (arith, mul-add-lt i m.nb column m.mb in_rows in_columns) in
     let fact = none_in_range at (m.mb * m.nb) place (none_under _ _ (range_ok m h)) in_matrix in
@@ -182,7 +182,7 @@ diagonal_same i = grind (arith, nat_tests)
 diagonal_next : (i : ℕ) → diagonal_entry i (i + 1) ≡ pos 0
 diagonal_next i = grind (arith, nat_tests)
 
-is_shift : (z : ℕ) (entry : ℤ) → is_in_range z entry ≡ true → int_eq entry zero_block ≡ false → (x : ℕ) × (entry ≡ pos x)
+is_shift : (z : ℕ) (entry : ℤ) → is_entry_in_range z entry ≡ true → int_eq entry zero_block ≡ false → (x : ℕ) × (entry ≡ pos x)
 is_shift z (pos x) h k = (x, refl)
 is_shift z (negsuc n) h k =
     let least : n ≡ 0 = grind (arith, nat_tests) in

@@ -11,7 +11,7 @@ use Rattle.ssd_geo.specs.Bits.{bytes_sum}
 use Rattle.ssd_geo.specs.Coding.{Coding}
 use Rattle.ssd_geo.specs.declared.place.Place.{Place}
 use Rattle.ssd_geo.specs.StripeSum.{zero_word}
-use Rattle.ssd_geo.specs.HistoryLaws.{AsksBelow, LaddersEnd}
+use Rattle.ssd_geo.specs.LadderLaws.{AsksBelow, LaddersEnd}
 use Rattle.ssd_geo.specs.Ladder.{LadderState, PlaceState, asks, recovered, uncorrectable, wants, found, missed, accepted, soft_work, soft_levels, hard_work, place_work, best_level, stripe_work, ladder, other_places}
 
 -- a place that was given so many senses wants one more only below a limit, and uses no more than the limit

@@ -2,7 +2,7 @@
 use Rattle.std.proofs.Common.{◌≡◌, ℕ, ◌+◌, ◌-◌, ◌*◌, ◌%◌, ◌^◌, ◌≤◌, ◌==◌, ◌&&◌, nat_lt, nat_le, Bool, true, false, not, cond, List, [], ◌∷◌, length, Option, Some, None, refl, arith}
 use Rattle.std.specs.List.{position_or_len}
 use Rattle.std.proofs.lemmas.Bool.Decides.{nat_tests}
-use Rattle.ssd_geo.specs.Limits.{cells_of, first_size_fault, is_between, payload_bytes_of, ranges_kept, IsWithinLimits, FaultlessSizesAreWithin}
+use Rattle.ssd_geo.specs.Limits.{cells_of, first_size_fault, is_within, payload_bytes_of, ranges_kept, IsWithinLimits, FaultlessSizesAreWithin}
 
 -- all tests are passed
 abbrev AllPassed : List Bool → Type 0
@@ -31,11 +31,11 @@ end_from_none : (n m : ℕ) → found_below n m ≡ None → m ≤ n
 end_from_none n m h = grind (arith, nat_tests)
 
 -- a test of a range
-between : (low high n : ℕ) → is_between low high n ≡ true → (low ≤ n) × (n ≤ high)
+between : (low high n : ℕ) → is_within low high n ≡ true → (low ≤ n) × (n ≤ high)
 between low high n e = (grind (arith, nat_tests), grind (arith, nat_tests))
 
-is_between_from : (low high n : ℕ) → low ≤ n → n ≤ high → is_between low high n ≡ true
-is_between_from low high n l h = grind (arith, nat_tests)
+is_within_from : (low high n : ℕ) → low ≤ n → n ≤ high → is_within low high n ≡ true
+is_within_from low high n l h = grind (arith, nat_tests)
 
 -- the tests that count with nb
 whole_tests : (a b c d : Bool) → (a && b && c && d) ≡ true → (a ≡ true) × (b ≡ true) × (c ≡ true) × (d ≡ true)
@@ -81,7 +81,7 @@ faultless_sizes_are_within channels dies superblocks pages z mb nb bytes rows =
           let l : (4 ≤ z) × (z ≤ 1024) = between 4 1024 z all.1.1.1.1.0 in
           let m : (3 ≤ mb) × (mb ≤ 16) = between 3 16 mb all.1.1.1.1.1.0 in
           let whole : _ =
-          whole_tests (is_between (mb + 1) 128 nb) ((nb - mb) * z % 8 == 0) (nb * z % 8 == 0) (nat_le cells (2 ^ 28)) all.1.1.1.1.1.1.0 in
+          whole_tests (is_within (mb + 1) 128 nb) ((nb - mb) * z % 8 == 0) (nb * z % 8 == 0) (nat_le cells (2 ^ 28)) all.1.1.1.1.1.1.0 in
           let b : (mb + 1 ≤ nb) × (nb ≤ 128) = between (mb + 1) 128 nb whole.0 in
           let d : (1 ≤ bytes) × (bytes ≤ payload - 16) = between 1 (payload - 16) bytes all.1.1.1.1.1.1.1.0 in
           let r : (1 ≤ rows) × (rows ≤ most) = between 1 most rows all.1.1.1.1.1.1.1.1.0 in
@@ -109,30 +109,30 @@ faultless_sizes_are_within channels dies superblocks pages z mb nb bytes rows =
             rows_high = r.1;
           }),
       (λ (w : IsWithinLimits channels dies superblocks pages z mb nb bytes rows).
-          let whole : (is_between (mb + 1) 128 nb && (nb - mb) * z % 8 == 0 && nb * z % 8 == 0 && nat_le cells (2 ^ 28)) ≡ true =
-          whole_from_tests (is_between (mb + 1) 128 nb) ((nb - mb) * z % 8 == 0) (nb * z % 8 == 0) (nat_le cells (2 ^ 28))
-          (is_between_from (mb + 1) 128 nb w.base_columns_low w.base_columns_high)
+          let whole : (is_within (mb + 1) 128 nb && (nb - mb) * z % 8 == 0 && nb * z % 8 == 0 && nat_le cells (2 ^ 28)) ≡ true =
+          whole_from_tests (is_within (mb + 1) 128 nb) ((nb - mb) * z % 8 == 0) (nb * z % 8 == 0) (nat_le cells (2 ^ 28))
+          (is_within_from (mb + 1) 128 nb w.base_columns_low w.base_columns_high)
           (test_from_same ((nb - mb) * z % 8) 0 w.whole_payload_bytes)
           (test_from_same (nb * z % 8) 0 w.whole_word_bytes)
           (test_from_order cells (2 ^ 28) w.cells_high) in
           let high : bytes ≤ payload - 16 = omega arith in
           let all : AllPassed tests = (
-            is_between_from 1 8 channels w.channels_low w.channels_high,
+            is_within_from 1 8 channels w.channels_low w.channels_high,
             (
-              is_between_from 3 8 dies w.dies_low w.dies_high,
+              is_within_from 3 8 dies w.dies_low w.dies_high,
               (
-                is_between_from 4 256 superblocks w.superblocks_low w.superblocks_high,
+                is_within_from 4 256 superblocks w.superblocks_low w.superblocks_high,
                 (
-                  is_between_from 2 256 pages w.pages_low w.pages_high,
+                  is_within_from 2 256 pages w.pages_low w.pages_high,
                   (
-                    is_between_from 4 1024 z w.lifting_low w.lifting_high,
+                    is_within_from 4 1024 z w.lifting_low w.lifting_high,
                     (
-                      is_between_from 3 16 mb w.base_rows_low w.base_rows_high,
+                      is_within_from 3 16 mb w.base_rows_low w.base_rows_high,
                       (
                         whole,
                         (
-                          is_between_from 1 (payload - 16) bytes w.bytes_low high,
-                          (is_between_from 1 most rows w.rows_low w.rows_high, tt),
+                          is_within_from 1 (payload - 16) bytes w.bytes_low high,
+                          (is_within_from 1 most rows w.rows_low w.rows_high, tt),
                         ),
                       ),
                     ),

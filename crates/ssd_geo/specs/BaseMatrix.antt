@@ -28,18 +28,18 @@ abbrev pub zero_block : ℤ
 zero_block = negsuc 0
 
 -- whether an entry is -1 or a shift below the lifting size
-abbrev pub is_in_range : ℕ → ℤ → Bool
-is_in_range z (pos shift) = nat_lt shift z
-is_in_range z (negsuc n) = n == 0
+abbrev pub is_entry_in_range : ℕ → ℤ → Bool
+is_entry_in_range z (pos shift) = nat_lt shift z
+is_entry_in_range z (negsuc n) = n == 0
 
 -- the block that an entry makes in its column, a column and a shift; a zero block makes none
-abbrev pub block_of : ℕ → ℤ → Option (ℕ × ℕ)
-block_of column (pos shift) = Some (column, shift)
-block_of column (negsuc n) = None
+abbrev pub block_of_entry : ℕ → ℤ → Option (ℕ × ℕ)
+block_of_entry column (pos shift) = Some (column, shift)
+block_of_entry column (negsuc n) = None
 
 -- the blocks of base row i that aren't zero, in rising columns
 abbrev pub layer_of : BaseMatrix → ℕ → List (ℕ × ℕ)
-layer_of m i = filter_map (λ column. block_of column (entry_at m i column)) (range_with_len 0 m.nb)
+layer_of m i = filter_map (λ column. block_of_entry column (entry_at m i column)) (range_with_len 0 m.nb)
 
 -- what can be wrong with a base matrix: an entry out of range; the first parity column in a row; the dual diagonal
 pub data MatrixFault : Type 0 where
@@ -51,7 +51,7 @@ pub data MatrixFault : Type 0 where
 abbrev pub range_fault : BaseMatrix → Option MatrixFault
 range_fault m =
     option_map (λ k. entry_range (k / m.nb) (k % m.nb))
-    (find (λ k. not (is_in_range m.z (entry_at m (k / m.nb) (k % m.nb)))) (range_with_len 0 (m.mb * m.nb)))
+    (find (λ k. not (is_entry_in_range m.z (entry_at m (k / m.nb) (k % m.nb)))) (range_with_len 0 (m.mb * m.nb)))
 
 -- the entry in row i of the first parity column
 abbrev pub parity_entry : BaseMatrix → ℕ → ℤ

@@ -43,8 +43,8 @@ abbrev pub IsCodeword : BaseMatrix → List ℕ → Type 0
 IsCodeword m word = (i r : ℕ) → i < m.mb → r < m.z → is_odd_row m (bits_of (word_bits m) word) i r ≡ false
 
 -- block j of a list of bits
-abbrev pub block_at : ℕ → List Bool → ℕ → List Bool
-block_at z bits j = take z (drop (j * z) bits)
+abbrev pub bits_of_block : ℕ → List Bool → ℕ → List Bool
+bits_of_block z bits j = take z (drop (j * z) bits)
 
 -- the blocks of base row i in the message's columns
 abbrev pub message_layer : BaseMatrix → ℕ → List (ℕ × ℕ)
@@ -52,7 +52,7 @@ message_layer m i = filter (λ block. nat_lt (block.0) (message_columns m)) (lay
 
 -- the sum of base row i over the message blocks, L i
 abbrev pub message_sum : BaseMatrix → List Bool → ℕ → List Bool
-message_sum m bits i = total_bits m.z (map (λ block. rotated (block.1) (block_at m.z bits (block.0))) (message_layer m i))
+message_sum m bits i = total_bits m.z (map (λ block. rotated (block.1) (bits_of_block m.z bits (block.0))) (message_layer m i))
 
 -- the first parity block: the sum of all base rows over the message blocks
 abbrev pub first_parity : BaseMatrix → List Bool → List Bool

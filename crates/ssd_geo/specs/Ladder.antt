@@ -8,7 +8,9 @@ use Rattle.std.specs.List.{list_all, range_with_len}
 use Rattle.std.specs.Option.{option_map_or}
 use Rattle.ssd_geo.specs.Bits.{bytes_sum}
 use Rattle.ssd_geo.specs.Coding.{Coding}
+use Rattle.ssd_geo.specs.Stripe.{place_of_slot}
 use Rattle.ssd_geo.specs.StripeSum.{zero_word}
+use Rattle.ssd_geo.specs.declared.look.Look.{Look}
 use Rattle.ssd_geo.specs.declared.place.Place.{Place}
 
 -- what the ladder has come to: it asks for a sense of a place at a level, or it has recovered the page at a rung, with
@@ -99,6 +101,13 @@ abbrev pub other_places : ℕ → Place → List Place
 other_places dies place =
     map (λ die. record { die = die; sb = place.sb; page = place.page })
     (filter (λ die. not (die == place.die)) (range_with_len 0 dies))
+
+-- what the ladder of a look has come to, over senses; where there is no look it can't recover a page
+abbrev pub ladder_over : Coding → ℕ → Option Look → List (List ℕ) → LadderState
+ladder_over coding dies None senses = uncorrectable
+ladder_over coding dies (Some look) senses =
+    let place = place_of_slot dies look.slot in
+    ladder coding (coding.has_head look.serial look.row) place (other_places dies place) look.closed senses
 
 -- whether a ladder has an answer, has recovered the page, and can't
 abbrev pub has_answer : LadderState → Bool

@@ -1,6 +1,6 @@
 -- Which sizes may a drive have? The limits are this project's own: they bound memory and keep every number of a
 -- page in its type.
-use Rattle.std.specs.Prelude.{ℕ, ◌≡◌, ◌+◌, ◌-◌, ◌*◌, ◌/◌, ◌%◌, ◌^◌, ◌≤◌, ◌==◌, nat_le, Bool, not, ◌&&◌, ◌↔◌, List, [], ◌∷◌, Option, None, position}
+use Rattle.std.specs.Prelude.{ℕ, ◌≡◌, ◌+◌, ◌-◌, ◌*◌, ◌/◌, ◌%◌, ◌^◌, ◌≤◌, ◌==◌, nat_le, Bool, ℤ, pos, negsuc, int_le, not, ◌&&◌, ◌↔◌, List, [], ◌∷◌, Option, None, position}
 
 -- the cells of all channels
 abbrev pub cells_of : ℕ → ℕ → ℕ → ℕ → ℕ → ℕ → ℕ
@@ -38,25 +38,32 @@ pub record IsWithinLimits (channels dies superblocks pages z mb nb bytes rows : 
   pub rows_low : 1 ≤ rows
   pub rows_high : rows ≤ (superblocks - 2) * (dies - 1) * pages
 
--- a number is at least the low one and at most the high one
-abbrev pub is_between : ℕ → ℕ → ℕ → Bool
-is_between low high n = nat_le low n && nat_le n high
+-- whether a number is at least the low one and at most the high one
+abbrev pub is_within : ℕ → ℕ → ℕ → Bool
+is_within low high n = nat_le low n && nat_le n high
+
+abbrev pub is_signed_within : ℤ → ℤ → ℤ → Bool
+is_signed_within low high n = int_le low n && int_le n high
+
+-- whether a number may be a level of a cell or a read level
+abbrev pub is_level : ℤ → Bool
+is_level level = is_signed_within (negsuc 16383) (pos 16383) level
 
 -- whether each size is in its range, in the order of the sizes. The whole bytes and the cells count with nb.
 abbrev pub ranges_kept : ℕ → ℕ → ℕ → ℕ → ℕ → ℕ → ℕ → ℕ → ℕ → List Bool
 ranges_kept channels dies superblocks pages z mb nb bytes rows =
-    is_between 1 8 channels
-    ∷ is_between 3 8 dies
-    ∷ is_between 4 256 superblocks
-    ∷ is_between 2 256 pages
-    ∷ is_between 4 1024 z
-    ∷ is_between 3 16 mb
-    ∷ (is_between (mb + 1) 128 nb
+    is_within 1 8 channels
+    ∷ is_within 3 8 dies
+    ∷ is_within 4 256 superblocks
+    ∷ is_within 2 256 pages
+    ∷ is_within 4 1024 z
+    ∷ is_within 3 16 mb
+    ∷ (is_within (mb + 1) 128 nb
     && (nb - mb) * z % 8 == 0
     && nb * z % 8 == 0
     && nat_le (cells_of channels dies superblocks pages z nb) (2 ^ 28))
-    ∷ is_between 1 (payload_bytes_of mb nb z - 16) bytes
-    ∷ is_between 1 ((superblocks - 2) * (dies - 1) * pages) rows
+    ∷ is_within 1 (payload_bytes_of mb nb z - 16) bytes
+    ∷ is_within 1 ((superblocks - 2) * (dies - 1) * pages) rows
     ∷ []
 
 -- the first size that isn't in its range, counted from 0

@@ -1,5 +1,5 @@
 ghost use Rattle.std.specs.Prelude.{◌≡◌, ◌↔◌, ◌*◌, ◌-◌, ◌<◌, ◌≤◌, ◌+◌, ◌/◌, ◌%◌, IsTrue, IsOk, IfOk, IfErr, Some};
-ghost use Rattle.ssd_geo.specs.Limits.{IsWithinLimits, first_size_fault, is_between, payload_bytes_of, word_bytes_of};
+ghost use Rattle.ssd_geo.specs.Limits.{IsWithinLimits, first_size_fault, is_within, payload_bytes_of, word_bytes_of};
 ghost use Rattle.ssd_geo.specs.Stripe.{place_of_parity, place_of_slot};
 ghost use Rattle.ssd_geo.specs.Superblock.{slots_of};
 
@@ -187,7 +187,7 @@ fn most_rows(dies: u8, superblocks: u16, pages: u16) -> u32
 }
 
 fn is_in_range(low: u32, n: u32, high: u32) -> bool
-    ensures { result ≡ is_between low high n }
+    ensures { result ≡ is_within low high n }
 {
     low <= n && n <= high
 }

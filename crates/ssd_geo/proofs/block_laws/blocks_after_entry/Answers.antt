@@ -1,5 +1,0 @@
-use Rattle.ssd_geo.proofs.BlockSteps.{blocks_after_entry}
-use Rattle.ssd_geo.proofs.block_laws.blocks_after_entry.Goals as goal
-
-pub returns : goal.returns
-returns c = blocks_after_entry

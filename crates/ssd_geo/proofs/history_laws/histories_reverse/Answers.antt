@@ -1,5 +1,0 @@
-use Rattle.ssd_geo.proofs.Histories.{histories_reverse}
-use Rattle.ssd_geo.proofs.history_laws.histories_reverse.Goals as goal
-
-pub returns : goal.returns
-returns c = histories_reverse

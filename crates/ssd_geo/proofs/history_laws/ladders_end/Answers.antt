@@ -1,5 +1,0 @@
-use Rattle.ssd_geo.proofs.LadderBound.{ladders_end}
-use Rattle.ssd_geo.proofs.history_laws.ladders_end.Goals as goal
-
-pub returns : goal.returns
-returns c = ladders_end

@@ -1,5 +1,0 @@
-use Rattle.ssd_geo.proofs.Histories.{lawful_before_last}
-use Rattle.ssd_geo.proofs.history_laws.lawful_before_last.Goals as goal
-
-pub returns : goal.returns
-returns c = lawful_before_last

@@ -1,5 +1,0 @@
-use Rattle.ssd_geo.proofs.MapRows.{rows_after_entry}
-use Rattle.ssd_geo.proofs.history_laws.rows_after_entry.Goals as goal
-
-pub returns : goal.returns
-returns c = rows_after_entry

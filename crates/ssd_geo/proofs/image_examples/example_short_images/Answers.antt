@@ -1,8 +1,0 @@
-use Rattle.std.specs.Prelude.{refl}
-use Rattle.ssd_geo.specs.Fields.{level_fields}
-use Rattle.ssd_geo.specs.ImageHead.{read_head, fixed_fields, matrix_field, weak_record, weak_records, bad_record, bad_records}
-use Rattle.ssd_geo.proofs.image_examples.example_short_images.Goals as goal
-
-pub returns : goal.returns
-unfolding read_head fixed_fields level_fields matrix_field weak_record weak_records bad_record bad_records
-returns c = refl

@@ -1,5 +1,0 @@
-use Rattle.ssd_geo.proofs.ContentsLaws.{contents_are_read}
-use Rattle.ssd_geo.proofs.image_laws.contents_are_read.Goals as goal
-
-pub returns : goal.returns
-returns c = λ head channel saved place more h s. contents_are_read head channel saved place more h s

@@ -1,5 +1,0 @@
-use Rattle.ssd_geo.proofs.RewrittenRows.{copies_are_fresh, rewritten_rows_differ}
-use Rattle.ssd_geo.proofs.look_laws.copies_are_fresh.Goals as goal
-
-pub returns : goal.returns
-returns c = record { rows = rewritten_rows_differ; copies = copies_are_fresh }

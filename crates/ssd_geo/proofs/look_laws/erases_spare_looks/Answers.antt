@@ -1,5 +1,0 @@
-use Rattle.ssd_geo.proofs.RewrittenRows.{erases_spare_looks}
-use Rattle.ssd_geo.proofs.look_laws.erases_spare_looks.Goals as goal
-
-pub returns : goal.returns
-returns c = erases_spare_looks

@@ -1,5 +1,0 @@
-use Rattle.ssd_geo.proofs.OpenLookLaws.{open_looks_stand}
-use Rattle.ssd_geo.proofs.look_laws.open_looks_stand.Goals as goal
-
-pub returns : goal.returns
-returns c = open_looks_stand

@@ -1,5 +1,0 @@
-use Rattle.ssd_geo.proofs.OpenLookLaws.{rows_name_used}
-use Rattle.ssd_geo.proofs.look_laws.rows_name_used.Goals as goal
-
-pub returns : goal.returns
-returns c = rows_name_used

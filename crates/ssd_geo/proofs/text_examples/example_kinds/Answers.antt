@@ -1,7 +1,0 @@
-use Rattle.std.specs.Prelude.{refl}
-use Rattle.std.specs.Fmt.{digits}
-use Rattle.ssd_geo.proofs.text_examples.example_kinds.Goals as goal
-
-pub returns : goal.returns
-unfolding digits
-returns c = refl

@@ -1,7 +1,0 @@
-use Rattle.std.specs.Prelude.{refl}
-use Rattle.std.specs.Fmt.{digits}
-use Rattle.ssd_geo.proofs.word_examples.example_statuses.Goals as goal
-
-pub returns-clause-texts : goal.returns-clause-texts
-unfolding digits
-returns-clause-texts c = refl

@@ -1,0 +1,12 @@
+pub mod BlockSteps
+pub mod FreshPages
+pub mod FreshSlots
+pub mod Histories
+pub mod MapRows
+pub mod OneOfEach
+pub mod OpenLookLaws
+pub mod PinnedWords
+pub mod ReserveLaws
+pub mod RewrittenRows
+pub mod RoundExamples
+pub mod UsedSlots
