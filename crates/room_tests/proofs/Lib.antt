@@ -1,0 +1,2 @@
+mod SmallStart
+mod TriedSteps

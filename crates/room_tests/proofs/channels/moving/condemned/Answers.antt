@@ -1,0 +1,25 @@
+use Rattle.std.proofs.Common.{subst}
+use Rattle.chan_state.specs.Steps.{LooksAt}
+use Rattle.chan_state.specs.declared.answers.LookAnswer.{LookAnswer}
+use Rattle.chan_state.specs.declared.answers.LookAnswer.TheVariants.{Found}
+use Rattle.room_tests.proofs.TriedSteps.{first_condemn, look_is_past, tried_condemned, tried_left, tried_looked}
+use Rattle.room_tests.proofs.channels.moving.condemned.Goals as goal
+
+pub returns-in_default : goal.returns-in_default
+returns-in_default c =
+    tried_looked c.args.channel.now c.look.new.self c.tag-by.result c.args.row c.in_ok-look.field-0 c.in_ok-look.ensures.ok c.requires.tried
+
+pub condemn_if-answer-requires : goal.condemn_if-answer-requires
+condemn_if-answer-requires c =
+    let found : LooksAt c.args.channel.now c.look.new.self c.tag-by.result c.args.row (Found c.in-Found.look) =
+    subst (λ (answer : LookAnswer). LooksAt c.args.channel.now c.look.new.self c.tag-by.result c.args.row answer) c.in-Found.is c.in_ok-look.ensures.ok in
+    first_condemn c.args.channel.now c.look.new.self c.tag-by.result c.args.row c.in-Found.look found c.requires.tried
+
+pub returns : goal.returns
+returns c =
+    let found : LooksAt c.args.channel.now c.look.new.self c.tag-by.result c.args.row (Found c.in-Found.look) =
+    subst (λ (answer : LookAnswer). LooksAt c.args.channel.now c.look.new.self c.tag-by.result c.args.row answer) c.in-Found.is c.in_ok-look.ensures.ok in
+    tried_left c.condemn_if-answer.new.self c.leave.new.self c.tag-by.result c.in-Found.look.at c.leave.ensures.entry
+    (tried_condemned c.look.new.self c.condemn_if-answer.new.self c.tag-by.result c.in-Found.look.at c.condemn_if-answer.result
+    (look_is_past c.args.channel.now c.look.new.self c.tag-by.result c.args.row c.in-Found.look found) c.condemn_if-answer.ensures.entry
+    (tried_looked c.args.channel.now c.look.new.self c.tag-by.result c.args.row (Found c.in-Found.look) found c.requires.tried))

@@ -1,0 +1,43 @@
+-- On which channel are the steps tried, and what stays so from step to step? A small drive has one channel with three dies
+-- and four superblocks of two pages, so of four data slots each, and words of 48 bytes.
+use Rattle.std.specs.Prelude.{ℕ, ◌≡◌, ◌≤◌, IsFalse, [], ◌∷◌, length, replicate, pos, negsuc}
+use Rattle.ssd_histories.specs.Blocks.{blank_block}
+use Rattle.ssd_histories.specs.Lawful.{has_fault_sense}
+use Rattle.ssd_geo.specs.declared.base.ChannelBase.{ChannelBase}
+use Rattle.ssd_geo.specs.declared.row.Row.{Row}
+use Rattle.ssd_geo.specs.declared.shape.Shape.{Shape}
+use Rattle.chan_state.specs.ChannelState.{ChannelState}
+use Rattle.chan_state.specs.Steps.{senses_made}
+use Rattle.chan_state.specs.TablesState.{ends_recovered, ends_uncorrectable}
+
+-- the base of the blank channel of a drive with these sizes
+abbrev pub small_base : Shape → ChannelBase
+small_base shape = record {
+  shape = shape;
+  session = 0;
+  blocks = replicate 4 blank_block;
+  rows = replicate 8 Row.Empty;
+  sum = replicate 48 0;
+  channel = 0;
+  entries = pos 0 ∷ pos 1 ∷ negsuc 0 ∷ pos 1 ∷ pos 0 ∷ negsuc 0
+      ∷ pos 5 ∷ negsuc 0 ∷ pos 7 ∷ pos 0 ∷ pos 0 ∷ pos 0
+      ∷ negsuc 0 ∷ pos 11 ∷ pos 3 ∷ pos 1 ∷ negsuc 0 ∷ pos 0 ∷ [];
+  read_levels = pos 0 ∷ negsuc 59 ∷ [];
+  iterations = 8;
+  step = 10;
+  law = record { erased = negsuc 99; programmed = pos 100; spread = 0; seed = 1 };
+  weak = [];
+}
+
+-- a channel on which steps are tried: it has the small sizes, no sense failed, and no entry is of a look that is to come
+pub record IsTried (channel : ChannelState) : Type 0 where
+  pub rows : channel.shape.rows ≡ 8
+  pub dies : channel.shape.dies ≡ 3
+  pub superblocks : channel.shape.superblocks ≡ 4
+  pub pages : channel.shape.pages ≡ 2
+  pub columns : channel.shape.nb ≡ 6
+  pub lifting : channel.shape.z ≡ 64
+  pub none_ahead : (at : ℕ) → length channel.past ≤ at → senses_made channel at ≡ 0
+  pub none_recovered : (at : ℕ) → length channel.past ≤ at → IsFalse (ends_recovered channel.past at)
+  pub none_uncorrectable : (at : ℕ) → length channel.past ≤ at → IsFalse (ends_uncorrectable channel.past at)
+  pub faultless : (at : ℕ) → IsFalse (has_fault_sense channel.past at)
