@@ -2,7 +2,7 @@
 """Runs the proved program on many inputs, and compares output, status and standard error with those of a
 plain simulation.
 
-The simulation (`.ci/simulation`) is written from the formats and rules of docs/, and shares nothing with
+The simulation (`checks/simulation`) is written from the formats and rules of docs/, and shares nothing with
 the program: it reads image and trace with their first faults, and serves writes, reads, trims and ageing on
 a blank drive, with the noise of its cells, the decoder, read retry and the limit of a history. It is itself
 compared with worked examples.
