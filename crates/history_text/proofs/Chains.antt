@@ -5,7 +5,8 @@ use Rattle.std.proofs.KnownBytes.{Appends-trans, Appends-nil}
 use Rattle.std.specs.Io.KnownBytes.{Appends}
 use Rattle.std.specs.declared.alloc.Global.{Global}
 use Rattle.std.specs.declared.vec.Vec.{Vec}
-use Rattle.ssd_geo.specs.Numbers.{Text}
+use Rattle.ssd_geo.specs.Faults.{Rose}
+use Rattle.ssd_formats.specs.Numbers.{Text}
 use Rattle.ssd_io.specs.Pieces.{AppendsFront}
 use Rattle.history_text.specs.Printing.{Adds, Stops, Prints}
 
@@ -29,7 +30,7 @@ module _ {O : Type 0} {written : O → Option Text} {faults : O → ℕ} where
     appended = Appends-trans _ _ _ p.front q.front p.appended q.appended;
     kept = regrouped l.items a b p.front l1.items p.kept ∙ ap (λ t. p.front ++ t) q.kept ∙ sym (append_assoc p.front q.front l2.items);
     room = omega (arith, p.room, q.room);
-    never_fell = omega (arith, p.never_fell, q.never_fell);
+    stays = q.stays ∙ p.stays;
   }
 
   pub stops_then : {o o1 o2 : O} {l l1 l2 : Vec ℕ Global} {a b : Text} → Adds written faults o o1 l l1 a → Stops written faults o1 o2 l1 l2 b → Stops written faults o o2 l l2 (a ++ b)
@@ -43,8 +44,8 @@ module _ {O : Type 0} {written : O → Option Text} {faults : O → ℕ} where
       record {
         front = (length p.front + n, omega arith, subst (Appends (written o) (written o2)) (sym same) (Appends-trans _ _ _ p.front _ p.appended q.front.2));
         room = omega (arith, p.room, q.room);
-        never_fell = omega (arith, p.never_fell, q.never_fell);
-        rose = omega (arith, p.never_fell, q.rose);
+        never_fell = omega (arith, p.stays, q.never_fell);
+        rose = subst (λ (n : ℕ). Rose n (faults o2)) p.stays q.rose;
       }
 
   pub stops_early : {o o1 : O} {l l1 : Vec ℕ Global} {a : Text} (b : Text) → Stops written faults o o1 l l1 a → Stops written faults o o1 l l1 (a ++ b)
@@ -98,7 +99,7 @@ module _ {O : Type 0} {written : O → Option Text} {faults : O → ℕ} where
   pub begun : (o : O) (l : Vec ℕ Global) (whole : Text) → Midway written faults o o l l whole whole
   begun o l whole = record {
     printed = [];
-    added = record { front = []; appended = Appends-nil (written o); kept = append-nil l.items; room = omega arith; never_fell = omega arith };
+    added = record { front = []; appended = Appends-nil (written o); kept = append-nil l.items; room = omega arith; stays = refl };
     whole_is = refl;
   }
 

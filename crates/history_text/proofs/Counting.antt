@@ -4,9 +4,9 @@ use Rattle.std.specs.Prelude.{◌==◌, Bool, true, false, ◌&&◌, zip, sum_by
 use Rattle.std.specs.List.{range_with_len}
 use Rattle.std.proofs.lemmas.List.{get_or-replicate}
 use Rattle.std.proofs.lemmas.Bool.Decides.{nat_tests}
-use Rattle.ssd_geo.specs.Numbers.{Text}
-use Rattle.ssd_geo.specs.EntryText.{line_of}
-use Rattle.ssd_geo.specs.RunText.{Answered, answered_calls, answers_count, replies_count, entries_count, summary_of, summary_text, count_line, is_write, is_read, is_trim, is_ok, is_full, is_read_only, is_die_fault, is_data, is_empty, is_uncorrectable, is_data_at, is_hinted, taken_by, is_move, is_condemn, is_changed, is_stay, is_pick, is_erase, is_bad, is_fault, is_sense}
+use Rattle.ssd_formats.specs.Numbers.{Text}
+use Rattle.ssd_formats.specs.EntryText.{line_of}
+use Rattle.ssd_formats.specs.RunText.{Answered, answered_calls, answers_count, replies_count, entries_count, summary_of, summary_text, count_line, counts_as_write, counts_as_read, counts_as_trim, counts_as_ok, counts_as_full, counts_as_read_only, counts_as_die_fault, counts_as_data, counts_as_empty, counts_as_uncorrectable, is_data_at, is_hinted, taken_by, counts_as_move, counts_as_condemn, counts_as_changed, counts_as_stay, counts_as_pick, counts_as_erase, counts_as_bad, counts_as_fault, counts_as_sense}
 use Rattle.ssd_geo.specs.declared.entry.Entry.{Entry}
 use Rattle.ssd_geo.specs.declared.kind.Kind.{Kind}
 use Rattle.ssd_geo.specs.declared.reply.CallKind.{CallKind}
@@ -39,211 +39,211 @@ summary_parts calls entries rungs hints =
     regrouped (line_of (codes "summary" ∷ [])) (count_line (codes "write") (slice_index calls 0 ∷ slice_index calls 1 ∷ slice_index calls 2 ∷ slice_index calls 3 ∷ [])) (count_line (codes "read") (slice_index calls 4 ∷ slice_index calls 5 ∷ slice_index calls 6 ∷ slice_index calls 7 ∷ [])) (count_line (codes "trim") (slice_index calls 8 ∷ [])) (line_of (codes "move" ∷ decimal (slice_index entries 0) ∷ codes "condemn" ∷ decimal (slice_index entries 1) ∷ codes "changed" ∷ decimal (slice_index entries 2) ∷ codes "stay" ∷ decimal (slice_index entries 3) ∷ [])) (line_of (codes "pick" ∷ decimal (slice_index entries 4) ∷ codes "erase" ∷ decimal (slice_index entries 5) ∷ codes "bad" ∷ decimal (slice_index entries 6) ∷ codes "fault" ∷ decimal (slice_index entries 7) ∷ [])) (count_line (codes "sense") (slice_index entries 8 ∷ [])) (count_line (codes "rung") rungs) (count_line (codes "hint") (hints.pushed ∷ hints.dropped ∷ hints.taken ∷ [])) (line_of (codes "end" ∷ []))
 
 -- the tests of answered calls
-on_write_0 : (reply : Reply) → (write_place reply == 0) ≡ (is_write kinds.Write && is_ok reply)
+on_write_0 : (reply : Reply) → (write_place reply == 0) ≡ (counts_as_write kinds.Write && counts_as_ok reply)
 on_write_0 replies.Ok = refl
 on_write_0 reply = refl
 
-on_read_0 : (reply : Reply) → (read_place reply == 0) ≡ (is_write kinds.Read && is_ok reply)
+on_read_0 : (reply : Reply) → (read_place reply == 0) ≡ (counts_as_write kinds.Read && counts_as_ok reply)
 on_read_0 replies.Ok = refl
 on_read_0 reply = refl
 
-call_test_0 : (kind : CallKind) (reply : Reply) → (call_place kind reply == 0) ≡ (is_write kind && is_ok reply)
+call_test_0 : (kind : CallKind) (reply : Reply) → (call_place kind reply == 0) ≡ (counts_as_write kind && counts_as_ok reply)
 call_test_0 kinds.Write reply = on_write_0 reply
 call_test_0 kinds.Read reply = on_read_0 reply
 call_test_0 kind reply = refl
 
-calls_0 : (calls : List Answered) → placed_calls 0 calls ≡ replies_count is_write is_ok calls
+calls_0 : (calls : List Answered) → placed_calls 0 calls ≡ replies_count counts_as_write counts_as_ok calls
 calls_0 calls = ap (λ (test : Answered → Bool). count_by test calls) (λ i call. call_test_0 call.0 call.1 i)
 
-on_write_1 : (reply : Reply) → (write_place reply == 1) ≡ (is_write kinds.Write && is_full reply)
+on_write_1 : (reply : Reply) → (write_place reply == 1) ≡ (counts_as_write kinds.Write && counts_as_full reply)
 on_write_1 replies.Full = refl
 on_write_1 reply = refl
 
-on_read_1 : (reply : Reply) → (read_place reply == 1) ≡ (is_write kinds.Read && is_full reply)
+on_read_1 : (reply : Reply) → (read_place reply == 1) ≡ (counts_as_write kinds.Read && counts_as_full reply)
 on_read_1 replies.Full = refl
 on_read_1 reply = refl
 
-call_test_1 : (kind : CallKind) (reply : Reply) → (call_place kind reply == 1) ≡ (is_write kind && is_full reply)
+call_test_1 : (kind : CallKind) (reply : Reply) → (call_place kind reply == 1) ≡ (counts_as_write kind && counts_as_full reply)
 call_test_1 kinds.Write reply = on_write_1 reply
 call_test_1 kinds.Read reply = on_read_1 reply
 call_test_1 kind reply = refl
 
-calls_1 : (calls : List Answered) → placed_calls 1 calls ≡ replies_count is_write is_full calls
+calls_1 : (calls : List Answered) → placed_calls 1 calls ≡ replies_count counts_as_write counts_as_full calls
 calls_1 calls = ap (λ (test : Answered → Bool). count_by test calls) (λ i call. call_test_1 call.0 call.1 i)
 
-on_write_2 : (reply : Reply) → (write_place reply == 2) ≡ (is_write kinds.Write && is_read_only reply)
+on_write_2 : (reply : Reply) → (write_place reply == 2) ≡ (counts_as_write kinds.Write && counts_as_read_only reply)
 on_write_2 replies.ReadOnly = refl
 on_write_2 reply = refl
 
-on_read_2 : (reply : Reply) → (read_place reply == 2) ≡ (is_write kinds.Read && is_read_only reply)
+on_read_2 : (reply : Reply) → (read_place reply == 2) ≡ (counts_as_write kinds.Read && counts_as_read_only reply)
 on_read_2 replies.ReadOnly = refl
 on_read_2 reply = refl
 
-call_test_2 : (kind : CallKind) (reply : Reply) → (call_place kind reply == 2) ≡ (is_write kind && is_read_only reply)
+call_test_2 : (kind : CallKind) (reply : Reply) → (call_place kind reply == 2) ≡ (counts_as_write kind && counts_as_read_only reply)
 call_test_2 kinds.Write reply = on_write_2 reply
 call_test_2 kinds.Read reply = on_read_2 reply
 call_test_2 kind reply = refl
 
-calls_2 : (calls : List Answered) → placed_calls 2 calls ≡ replies_count is_write is_read_only calls
+calls_2 : (calls : List Answered) → placed_calls 2 calls ≡ replies_count counts_as_write counts_as_read_only calls
 calls_2 calls = ap (λ (test : Answered → Bool). count_by test calls) (λ i call. call_test_2 call.0 call.1 i)
 
-on_write_3 : (reply : Reply) → (write_place reply == 3) ≡ (is_write kinds.Write && is_die_fault reply)
+on_write_3 : (reply : Reply) → (write_place reply == 3) ≡ (counts_as_write kinds.Write && counts_as_die_fault reply)
 on_write_3 (replies.DieFault die) = refl
 on_write_3 reply = refl
 
-on_read_3 : (reply : Reply) → (read_place reply == 3) ≡ (is_write kinds.Read && is_die_fault reply)
+on_read_3 : (reply : Reply) → (read_place reply == 3) ≡ (counts_as_write kinds.Read && counts_as_die_fault reply)
 on_read_3 (replies.DieFault die) = refl
 on_read_3 reply = refl
 
-call_test_3 : (kind : CallKind) (reply : Reply) → (call_place kind reply == 3) ≡ (is_write kind && is_die_fault reply)
+call_test_3 : (kind : CallKind) (reply : Reply) → (call_place kind reply == 3) ≡ (counts_as_write kind && counts_as_die_fault reply)
 call_test_3 kinds.Write reply = on_write_3 reply
 call_test_3 kinds.Read reply = on_read_3 reply
 call_test_3 kind reply = refl
 
-calls_3 : (calls : List Answered) → placed_calls 3 calls ≡ replies_count is_write is_die_fault calls
+calls_3 : (calls : List Answered) → placed_calls 3 calls ≡ replies_count counts_as_write counts_as_die_fault calls
 calls_3 calls = ap (λ (test : Answered → Bool). count_by test calls) (λ i call. call_test_3 call.0 call.1 i)
 
-on_write_4 : (reply : Reply) → (write_place reply == 4) ≡ (is_read kinds.Write && is_data reply)
+on_write_4 : (reply : Reply) → (write_place reply == 4) ≡ (counts_as_read kinds.Write && counts_as_data reply)
 on_write_4 (replies.Data rung bytes) = refl
 on_write_4 reply = refl
 
-on_read_4 : (reply : Reply) → (read_place reply == 4) ≡ (is_read kinds.Read && is_data reply)
+on_read_4 : (reply : Reply) → (read_place reply == 4) ≡ (counts_as_read kinds.Read && counts_as_data reply)
 on_read_4 (replies.Data rung bytes) = refl
 on_read_4 reply = refl
 
-call_test_4 : (kind : CallKind) (reply : Reply) → (call_place kind reply == 4) ≡ (is_read kind && is_data reply)
+call_test_4 : (kind : CallKind) (reply : Reply) → (call_place kind reply == 4) ≡ (counts_as_read kind && counts_as_data reply)
 call_test_4 kinds.Write reply = on_write_4 reply
 call_test_4 kinds.Read reply = on_read_4 reply
 call_test_4 kind reply = refl
 
-calls_4 : (calls : List Answered) → placed_calls 4 calls ≡ replies_count is_read is_data calls
+calls_4 : (calls : List Answered) → placed_calls 4 calls ≡ replies_count counts_as_read counts_as_data calls
 calls_4 calls = ap (λ (test : Answered → Bool). count_by test calls) (λ i call. call_test_4 call.0 call.1 i)
 
-on_write_5 : (reply : Reply) → (write_place reply == 5) ≡ (is_read kinds.Write && is_empty reply)
+on_write_5 : (reply : Reply) → (write_place reply == 5) ≡ (counts_as_read kinds.Write && counts_as_empty reply)
 on_write_5 replies.Empty = refl
 on_write_5 reply = refl
 
-on_read_5 : (reply : Reply) → (read_place reply == 5) ≡ (is_read kinds.Read && is_empty reply)
+on_read_5 : (reply : Reply) → (read_place reply == 5) ≡ (counts_as_read kinds.Read && counts_as_empty reply)
 on_read_5 replies.Empty = refl
 on_read_5 reply = refl
 
-call_test_5 : (kind : CallKind) (reply : Reply) → (call_place kind reply == 5) ≡ (is_read kind && is_empty reply)
+call_test_5 : (kind : CallKind) (reply : Reply) → (call_place kind reply == 5) ≡ (counts_as_read kind && counts_as_empty reply)
 call_test_5 kinds.Write reply = on_write_5 reply
 call_test_5 kinds.Read reply = on_read_5 reply
 call_test_5 kind reply = refl
 
-calls_5 : (calls : List Answered) → placed_calls 5 calls ≡ replies_count is_read is_empty calls
+calls_5 : (calls : List Answered) → placed_calls 5 calls ≡ replies_count counts_as_read counts_as_empty calls
 calls_5 calls = ap (λ (test : Answered → Bool). count_by test calls) (λ i call. call_test_5 call.0 call.1 i)
 
-on_write_6 : (reply : Reply) → (write_place reply == 6) ≡ (is_read kinds.Write && is_uncorrectable reply)
+on_write_6 : (reply : Reply) → (write_place reply == 6) ≡ (counts_as_read kinds.Write && counts_as_uncorrectable reply)
 on_write_6 replies.Uncorrectable = refl
 on_write_6 reply = refl
 
-on_read_6 : (reply : Reply) → (read_place reply == 6) ≡ (is_read kinds.Read && is_uncorrectable reply)
+on_read_6 : (reply : Reply) → (read_place reply == 6) ≡ (counts_as_read kinds.Read && counts_as_uncorrectable reply)
 on_read_6 replies.Uncorrectable = refl
 on_read_6 reply = refl
 
-call_test_6 : (kind : CallKind) (reply : Reply) → (call_place kind reply == 6) ≡ (is_read kind && is_uncorrectable reply)
+call_test_6 : (kind : CallKind) (reply : Reply) → (call_place kind reply == 6) ≡ (counts_as_read kind && counts_as_uncorrectable reply)
 call_test_6 kinds.Write reply = on_write_6 reply
 call_test_6 kinds.Read reply = on_read_6 reply
 call_test_6 kind reply = refl
 
-calls_6 : (calls : List Answered) → placed_calls 6 calls ≡ replies_count is_read is_uncorrectable calls
+calls_6 : (calls : List Answered) → placed_calls 6 calls ≡ replies_count counts_as_read counts_as_uncorrectable calls
 calls_6 calls = ap (λ (test : Answered → Bool). count_by test calls) (λ i call. call_test_6 call.0 call.1 i)
 
-on_write_7 : (reply : Reply) → (write_place reply == 7) ≡ (is_read kinds.Write && is_die_fault reply)
+on_write_7 : (reply : Reply) → (write_place reply == 7) ≡ (counts_as_read kinds.Write && counts_as_die_fault reply)
 on_write_7 (replies.DieFault die) = refl
 on_write_7 reply = refl
 
-on_read_7 : (reply : Reply) → (read_place reply == 7) ≡ (is_read kinds.Read && is_die_fault reply)
+on_read_7 : (reply : Reply) → (read_place reply == 7) ≡ (counts_as_read kinds.Read && counts_as_die_fault reply)
 on_read_7 (replies.DieFault die) = refl
 on_read_7 reply = refl
 
-call_test_7 : (kind : CallKind) (reply : Reply) → (call_place kind reply == 7) ≡ (is_read kind && is_die_fault reply)
+call_test_7 : (kind : CallKind) (reply : Reply) → (call_place kind reply == 7) ≡ (counts_as_read kind && counts_as_die_fault reply)
 call_test_7 kinds.Write reply = on_write_7 reply
 call_test_7 kinds.Read reply = on_read_7 reply
 call_test_7 kind reply = refl
 
-calls_7 : (calls : List Answered) → placed_calls 7 calls ≡ replies_count is_read is_die_fault calls
+calls_7 : (calls : List Answered) → placed_calls 7 calls ≡ replies_count counts_as_read counts_as_die_fault calls
 calls_7 calls = ap (λ (test : Answered → Bool). count_by test calls) (λ i call. call_test_7 call.0 call.1 i)
 
-on_write_8 : (reply : Reply) → (write_place reply == 8) ≡ (is_trim kinds.Write && true)
+on_write_8 : (reply : Reply) → (write_place reply == 8) ≡ (counts_as_trim kinds.Write && true)
 on_write_8 replies.Ok = refl
 on_write_8 reply = refl
 
-on_read_8 : (reply : Reply) → (read_place reply == 8) ≡ (is_trim kinds.Read && true)
+on_read_8 : (reply : Reply) → (read_place reply == 8) ≡ (counts_as_trim kinds.Read && true)
 on_read_8 replies.Ok = refl
 on_read_8 reply = refl
 
-call_test_8 : (kind : CallKind) (reply : Reply) → (call_place kind reply == 8) ≡ (is_trim kind && true)
+call_test_8 : (kind : CallKind) (reply : Reply) → (call_place kind reply == 8) ≡ (counts_as_trim kind && true)
 call_test_8 kinds.Write reply = on_write_8 reply
 call_test_8 kinds.Read reply = on_read_8 reply
 call_test_8 kind reply = refl
 
-calls_8 : (calls : List Answered) → placed_calls 8 calls ≡ replies_count is_trim (λ reply. true) calls
+calls_8 : (calls : List Answered) → placed_calls 8 calls ≡ replies_count counts_as_trim (λ reply. true) calls
 calls_8 calls = ap (λ (test : Answered → Bool). count_by test calls) (λ i call. call_test_8 call.0 call.1 i)
 
-entry_test_0 : (kind : Kind) → (kind_place kind == 0) ≡ is_move kind
+entry_test_0 : (kind : Kind) → (kind_place kind == 0) ≡ counts_as_move kind
 entry_test_0 (did.Move at slot) = refl
 entry_test_0 kind = refl
 
-entries_0 : (histories : List (List Entry)) → sum_by (placed_entries 0) histories ≡ entries_count is_move histories
+entries_0 : (histories : List (List Entry)) → sum_by (placed_entries 0) histories ≡ entries_count counts_as_move histories
 entries_0 histories = ap (λ (test : Entry → Bool). sum_by (count_by test) histories) (λ i entry. entry_test_0 entry.kind i)
 
-entry_test_1 : (kind : Kind) → (kind_place kind == 1) ≡ is_condemn kind
+entry_test_1 : (kind : Kind) → (kind_place kind == 1) ≡ counts_as_condemn kind
 entry_test_1 (did.Condemn at) = refl
 entry_test_1 kind = refl
 
-entries_1 : (histories : List (List Entry)) → sum_by (placed_entries 1) histories ≡ entries_count is_condemn histories
+entries_1 : (histories : List (List Entry)) → sum_by (placed_entries 1) histories ≡ entries_count counts_as_condemn histories
 entries_1 histories = ap (λ (test : Entry → Bool). sum_by (count_by test) histories) (λ i entry. entry_test_1 entry.kind i)
 
-entry_test_2 : (kind : Kind) → (kind_place kind == 2) ≡ is_changed kind
+entry_test_2 : (kind : Kind) → (kind_place kind == 2) ≡ counts_as_changed kind
 entry_test_2 (did.Changed at found) = refl
 entry_test_2 kind = refl
 
-entries_2 : (histories : List (List Entry)) → sum_by (placed_entries 2) histories ≡ entries_count is_changed histories
+entries_2 : (histories : List (List Entry)) → sum_by (placed_entries 2) histories ≡ entries_count counts_as_changed histories
 entries_2 histories = ap (λ (test : Entry → Bool). sum_by (count_by test) histories) (λ i entry. entry_test_2 entry.kind i)
 
-entry_test_3 : (kind : Kind) → (kind_place kind == 3) ≡ is_stay kind
+entry_test_3 : (kind : Kind) → (kind_place kind == 3) ≡ counts_as_stay kind
 entry_test_3 (did.Stay at worn) = refl
 entry_test_3 kind = refl
 
-entries_3 : (histories : List (List Entry)) → sum_by (placed_entries 3) histories ≡ entries_count is_stay histories
+entries_3 : (histories : List (List Entry)) → sum_by (placed_entries 3) histories ≡ entries_count counts_as_stay histories
 entries_3 histories = ap (λ (test : Entry → Bool). sum_by (count_by test) histories) (λ i entry. entry_test_3 entry.kind i)
 
-entry_test_4 : (kind : Kind) → (kind_place kind == 4) ≡ is_pick kind
+entry_test_4 : (kind : Kind) → (kind_place kind == 4) ≡ counts_as_pick kind
 entry_test_4 (did.Pick sb) = refl
 entry_test_4 kind = refl
 
-entries_4 : (histories : List (List Entry)) → sum_by (placed_entries 4) histories ≡ entries_count is_pick histories
+entries_4 : (histories : List (List Entry)) → sum_by (placed_entries 4) histories ≡ entries_count counts_as_pick histories
 entries_4 histories = ap (λ (test : Entry → Bool). sum_by (count_by test) histories) (λ i entry. entry_test_4 entry.kind i)
 
-entry_test_5 : (kind : Kind) → (kind_place kind == 5) ≡ is_erase kind
+entry_test_5 : (kind : Kind) → (kind_place kind == 5) ≡ counts_as_erase kind
 entry_test_5 (did.Erase sb) = refl
 entry_test_5 kind = refl
 
-entries_5 : (histories : List (List Entry)) → sum_by (placed_entries 5) histories ≡ entries_count is_erase histories
+entries_5 : (histories : List (List Entry)) → sum_by (placed_entries 5) histories ≡ entries_count counts_as_erase histories
 entries_5 histories = ap (λ (test : Entry → Bool). sum_by (count_by test) histories) (λ i entry. entry_test_5 entry.kind i)
 
-entry_test_6 : (kind : Kind) → (kind_place kind == 6) ≡ is_bad kind
+entry_test_6 : (kind : Kind) → (kind_place kind == 6) ≡ counts_as_bad kind
 entry_test_6 (did.BadErase sb die fault) = refl
 entry_test_6 kind = refl
 
-entries_6 : (histories : List (List Entry)) → sum_by (placed_entries 6) histories ≡ entries_count is_bad histories
+entries_6 : (histories : List (List Entry)) → sum_by (placed_entries 6) histories ≡ entries_count counts_as_bad histories
 entries_6 histories = ap (λ (test : Entry → Bool). sum_by (count_by test) histories) (λ i entry. entry_test_6 entry.kind i)
 
-entry_test_7 : (kind : Kind) → (kind_place kind == 7) ≡ is_fault kind
+entry_test_7 : (kind : Kind) → (kind_place kind == 7) ≡ counts_as_fault kind
 entry_test_7 (did.FaultAge die sb amount) = refl
 entry_test_7 kind = refl
 
-entries_7 : (histories : List (List Entry)) → sum_by (placed_entries 7) histories ≡ entries_count is_fault histories
+entries_7 : (histories : List (List Entry)) → sum_by (placed_entries 7) histories ≡ entries_count counts_as_fault histories
 entries_7 histories = ap (λ (test : Entry → Bool). sum_by (count_by test) histories) (λ i entry. entry_test_7 entry.kind i)
 
-entry_test_8 : (kind : Kind) → (kind_place kind == 8) ≡ is_sense kind
+entry_test_8 : (kind : Kind) → (kind_place kind == 8) ≡ counts_as_sense kind
 entry_test_8 (did.Sense at place level) = refl
 entry_test_8 kind = refl
 
-entries_8 : (histories : List (List Entry)) → sum_by (placed_entries 8) histories ≡ entries_count is_sense histories
+entries_8 : (histories : List (List Entry)) → sum_by (placed_entries 8) histories ≡ entries_count counts_as_sense histories
 entries_8 histories = ap (λ (test : Entry → Bool). sum_by (count_by test) histories) (λ i entry. entry_test_8 entry.kind i)
 
 -- the test of a rung

@@ -6,7 +6,7 @@ use Rattle.std.specs.List.{slice_split, position, position_or_len}
 use Rattle.std.proofs.lemmas.List.Splits.{length-slice_split, slice_split_first, slice_split_none}
 use Rattle.std.proofs.lemmas.List.Sums.{fails_before_first}
 use Rattle.std.proofs.lemmas.Grind.{common_steps}
-use Rattle.ssd_geo.specs.Numbers.{Text}
+use Rattle.ssd_formats.specs.Numbers.{Text}
 use Rattle.history_text.specs.Pieces.{is_byte, only_piece, pieces_of}
 
 found_at : (b : Bool) (m n : ℕ) → cond b (Some m) None ≡ Some n → (b ≡ true) × (m ≡ n)

@@ -3,10 +3,10 @@ use Rattle.std.proofs.Common.{◌≡◌, refl, ℕ, ◌^◌, cond, ◌&&◌, nat
 use Rattle.std.proofs.Common.{Some, None, arith}
 use Rattle.std.specs.Prelude.{bytes_eq, codes, option_and_then, option_map}
 use Rattle.std.proofs.lemmas.Grind.{common_steps}
-use Rattle.ssd_geo.specs.Fields.{passing}
-use Rattle.ssd_geo.specs.HistoryText.{count_of_words, entry_of_words, entry_with, most_entries, spells}
-use Rattle.ssd_geo.specs.KindOfWords.{◌>>=◌, kind_of_words, number_32, tag_of}
-use Rattle.ssd_geo.specs.Numbers.{Text, number_of_text}
+use Rattle.ssd_formats.specs.Fields.{passing}
+use Rattle.ssd_formats.specs.HistoryText.{count_of_words, entry_of_words, entry_with, most_entries, spells}
+use Rattle.ssd_formats.specs.KindOfWords.{◌>>=◌, kind_of_words, number_32, read_tag}
+use Rattle.ssd_formats.specs.Numbers.{Text, number_of_text}
 use Rattle.ssd_geo.specs.declared.entry.Entry.{Entry}
 use Rattle.history_text.specs.LinesLeft.{count_of}
 use Rattle.history_text.specs.Pieces.{next_piece, three_pieces}
@@ -42,7 +42,7 @@ count_is channel (word ∷ number ∷ entries ∷ more ∷ words) = refl
 abbrev entry_with_words : ℕ → Text → Text × List Text → Option Entry
 entry_with_words position number of =
     cond (spells position number)
-    (option_and_then (λ kind. option_map (entry_with kind) (tag_of of.0)) (kind_of_words of.1))
+    (option_and_then (λ kind. option_map (entry_with kind) (read_tag of.0)) (kind_of_words of.1))
     None
 
 pub entry_is : (position : ℕ) (words : List Text) →

@@ -1,11 +1,11 @@
 -- Entries and histories, read one after the other.
 use Rattle.std.proofs.Common.{◌≡◌, refl, sym, ap, ◌∙◌, subst, ℕ, suc, ◌+◌, ◌-◌, ◌<◌, List, [], ◌∷◌}
 use Rattle.std.proofs.Common.{◌++◌, length, Result, Ok, Err, arith}
-use Rattle.ssd_geo.specs.Fields.{◌>>=◌}
-use Rattle.ssd_geo.specs.HistoryText.{Printed, at_end, read_history, count_of_words}
-use Rattle.ssd_geo.specs.HistoryText.{entries_of_lines, entry_of_words, histories_of_lines}
-use Rattle.ssd_geo.specs.HistoryText.{next_line, printed}
-use Rattle.ssd_geo.specs.Numbers.{Text}
+use Rattle.ssd_formats.specs.Fields.{◌>>=◌}
+use Rattle.ssd_formats.specs.HistoryText.{Printed, at_end, read_history, count_of_words}
+use Rattle.ssd_formats.specs.HistoryText.{entries_of_lines, entry_of_words, histories_of_lines}
+use Rattle.ssd_formats.specs.HistoryText.{next_line, printed}
+use Rattle.ssd_formats.specs.Numbers.{Text}
 use Rattle.ssd_geo.specs.declared.entry.Entry.{Entry}
 use Rattle.history_text.specs.LinesLeft.{StopsAt, channel_of_lines}
 use Rattle.history_text.specs.declared.fault.HistoryFault.{HistoryFault}

@@ -3,8 +3,8 @@ use Rattle.std.proofs.Common.{◌≡◌, refl, sym, ap, ◌∙◌, ℕ, ◌<◌,
 use Rattle.std.proofs.Common.{List, [], ◌∷◌, length, Some, None, arith}
 use Rattle.std.specs.List.{onto_first}
 use Rattle.std.proofs.lemmas.List.Splits.{length-slice_split}
-use Rattle.ssd_geo.specs.HistoryText.{printed_lines}
-use Rattle.ssd_geo.specs.Numbers.{Text}
+use Rattle.ssd_formats.specs.HistoryText.{printed_lines}
+use Rattle.ssd_formats.specs.Numbers.{Text}
 use Rattle.history_text.specs.LinesLeft.{first_line, lines_of}
 use Rattle.history_text.specs.Pieces.{is_byte, pieces_of}
 

@@ -9,8 +9,8 @@ use Rattle.std.proofs.lemmas.Grind.{common_steps}
 use Rattle.std.proofs.lemmas.Str.{IsUtf8-from_ascii}
 use Rattle.std.proofs.lemmas.Str.Parse.{IsNumeralModel, numerals_by_value, parse_digits}
 use Rattle.std.proofs.lemmas.Str.Parse.{tells_all_ascii_digits}
-use Rattle.ssd_geo.specs.KindOfWords.{number_64}
-use Rattle.ssd_geo.specs.Numbers.{Text, is_number}
+use Rattle.ssd_formats.specs.KindOfWords.{number_64}
+use Rattle.ssd_formats.specs.Numbers.{Text, is_number}
 
 numerals : IsNumeralModel (λ ds. all_ascii_digits ds ≡ true) (digits_value 10)
 numerals = numerals_by_value _ tells_all_ascii_digits

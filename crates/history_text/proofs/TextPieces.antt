@@ -2,14 +2,14 @@
 use Rattle.std.proofs.Common.{◌≡◌, ℕ, List, [], ◌∷◌, ◌++◌, Option, Result, map, refl, sym, ap, ◌∙◌, subst, append_assoc, append-nil, decimal}
 use Rattle.std.specs.declared.alloc.Global.{Global}
 use Rattle.std.specs.declared.vec.Vec.{Vec}
-use Rattle.ssd_geo.specs.Numbers.{Text}
+use Rattle.ssd_formats.specs.Numbers.{Text}
 use Rattle.std.specs.Prelude.{flat_map}
 use Rattle.std.specs.List.{enumerate_from}
 use Rattle.ssd_geo.specs.declared.entry.Entry.{Entry}
-use Rattle.ssd_geo.specs.EntryText.{spaced, line_of, entry_line, history_text}
+use Rattle.ssd_formats.specs.EntryText.{spaced, line_of, entry_line, history_text}
 use Rattle.std.proofs.lemmas.Grind.{flat_map-append}
-use Rattle.ssd_geo.specs.Numbers.{hex_of_byte, hex_of_bytes}
-use Rattle.ssd_geo.specs.ReplyText.{reply_line, drained_text, actor_text}
+use Rattle.ssd_formats.specs.Numbers.{hex_of_byte, hex_of_bytes}
+use Rattle.ssd_formats.specs.ReplyText.{reply_line, drained_text, actor_text}
 use Rattle.ssd_geo.specs.declared.reply.RefreshReply.{RefreshReply}
 use Rattle.ssd_geo.specs.declared.reply.Reply.{Reply}
 use Rattle.history_text.specs.declared.word.Word.{Word}

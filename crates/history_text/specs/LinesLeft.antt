@@ -5,10 +5,10 @@ use Rattle.std.specs.declared.alloc.Global.{Global}
 use Rattle.std.specs.declared.vec.Vec.{Vec}
 use Rattle.std.specs.Prelude.{◌≡◌, ℕ, ◌+◌, nat_le, List, [], ◌∷◌, Option, Some, None}
 use Rattle.std.specs.Prelude.{option_and_then, Result, Ok, Err}
-use Rattle.ssd_geo.specs.Fields.{◌>>=◌, passing}
-use Rattle.ssd_geo.specs.HistoryText.{Printed, count_of_words, entries_of_lines, most_entries}
-use Rattle.ssd_geo.specs.HistoryText.{next_line, printed_lines}
-use Rattle.ssd_geo.specs.Numbers.{Text, number_of_text}
+use Rattle.ssd_formats.specs.Fields.{◌>>=◌, passing}
+use Rattle.ssd_formats.specs.HistoryText.{Printed, count_of_words, entries_of_lines, most_entries}
+use Rattle.ssd_formats.specs.HistoryText.{next_line, printed_lines}
+use Rattle.ssd_formats.specs.Numbers.{Text, number_of_text}
 use Rattle.ssd_geo.specs.declared.entry.Entry.{Entry}
 use Rattle.history_text.specs.Pieces.{pieces_of}
 use Rattle.history_text.specs.declared.fault.HistoryFault.{HistoryFault}

@@ -3,8 +3,8 @@
 use Rattle.std.specs.Borrow.{Bor}
 use Rattle.std.specs.Prelude.{ℕ, ◌==◌, Bool, List, [], ◌∷◌, Option, Some, None, option_copied}
 use Rattle.std.specs.List.{slice_split}
-use Rattle.ssd_geo.specs.KindOfWords.{◌>>=◌}
-use Rattle.ssd_geo.specs.Numbers.{Text}
+use Rattle.ssd_formats.specs.KindOfWords.{◌>>=◌}
+use Rattle.ssd_formats.specs.Numbers.{Text}
 
 abbrev pub is_byte : ℕ → ℕ → Bool
 is_byte wanted byte = byte == wanted

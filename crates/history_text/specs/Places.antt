@@ -1,7 +1,7 @@
 -- Which count of a summary has an entry, and which an answered call? Each is counted at one place of a list, and what no
 -- line of the summary counts stands at the last place.
 use Rattle.std.specs.Prelude.{ℕ, ◌<◌, ◌≤◌, ◌==◌, List, [], length, count_by, slice_index_or}
-use Rattle.ssd_geo.specs.RunText.{Answered}
+use Rattle.ssd_formats.specs.RunText.{Answered}
 use Rattle.ssd_geo.specs.declared.entry.Entry.{Entry}
 use Rattle.ssd_geo.specs.declared.kind.Kind.{Kind}
 use Rattle.ssd_geo.specs.declared.reply.CallKind.{CallKind}

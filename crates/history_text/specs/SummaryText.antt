@@ -1,8 +1,8 @@
 -- How is the summary of a run printed from counts at places? In lines of calls, of entries, of rungs and of hints.
 use Rattle.std.specs.Prelude.{ℕ, List, [], ◌∷◌, ◌++◌, codes, decimal, slice_index}
-use Rattle.ssd_geo.specs.Numbers.{Text}
-use Rattle.ssd_geo.specs.EntryText.{line_of}
-use Rattle.ssd_geo.specs.RunText.{Summary, count_line}
+use Rattle.ssd_formats.specs.Numbers.{Text}
+use Rattle.ssd_formats.specs.EntryText.{line_of}
+use Rattle.ssd_formats.specs.RunText.{Summary, count_line}
 use Rattle.history_text.specs.declared.summary.Hints.{Hints}
 
 -- the lines from `summary` to that of trims, from the counts of calls

@@ -1,9 +1,9 @@
 -- Which parts of a run's text are printed by calls of their own? The entries of a history, and the replies of an actor.
 use Rattle.std.specs.Prelude.{List, flat_map}
 use Rattle.std.specs.List.{enumerate_from}
-use Rattle.ssd_geo.specs.Numbers.{Text}
-use Rattle.ssd_geo.specs.EntryText.{entry_line}
-use Rattle.ssd_geo.specs.ReplyText.{reply_line}
+use Rattle.ssd_formats.specs.Numbers.{Text}
+use Rattle.ssd_formats.specs.EntryText.{entry_line}
+use Rattle.ssd_formats.specs.ReplyText.{reply_line}
 use Rattle.ssd_geo.specs.declared.entry.Entry.{Entry}
 use Rattle.ssd_geo.specs.declared.reply.Reply.{Reply}
 

@@ -2,9 +2,9 @@
 -- stops between.
 use Rattle.std.specs.Prelude.{List, [], ◌∷◌, flat_map, decimal, codes}
 use Rattle.std.specs.Fmt.{signed_decimal}
-use Rattle.ssd_geo.specs.Numbers.{Text}
-use Rattle.ssd_geo.specs.EntryText.{dotted, slot_text, place_text, tag_text}
-use Rattle.ssd_geo.specs.ReplyText.{word_and_number}
+use Rattle.ssd_formats.specs.Numbers.{Text}
+use Rattle.ssd_formats.specs.EntryText.{dotted, slot_text, place_text, tag_text}
+use Rattle.ssd_formats.specs.ReplyText.{word_and_number}
 use Rattle.history_text.specs.declared.word.Word.{Word}
 use Rattle.history_text.specs.declared.word.Word.TheVariants.{Name, Number, Count, Level, Address, Block, At, Call, DieFault}
 

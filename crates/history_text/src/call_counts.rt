@@ -1,6 +1,6 @@
 // The counts of replies in the summary.
 ghost use Rattle.std.specs.Prelude.{◌≡◌, ℕ, ◌+◌, ◌-◌, ◌^◌, ◌<◌, ◌≤◌, length, zip, count_by, sum_by, slice_index, cond};
-ghost use Rattle.ssd_geo.specs.RunText.{answered_calls, answers_count, is_hinted, taken_by};
+ghost use Rattle.ssd_formats.specs.RunText.{answered_calls, answers_count, is_hinted, taken_by};
 ghost use Rattle.history_text.specs.Places.{write_place, read_place, call_place, placed_calls, rung_place, placed_rungs, AsLong};
 
 use ssd_geo::{CallKind, Items, Reply};

@@ -1,6 +1,6 @@
 // The lines of histories.
 ghost use Rattle.std.specs.Prelude.{◌≡◌, ℕ, [], ◌∷◌, map, length, decimal, if◌then◌else◌};
-ghost use Rattle.ssd_geo.specs.EntryText.{line_of, tag_text, entry_line, history_text};
+ghost use Rattle.ssd_formats.specs.EntryText.{line_of, tag_text, entry_line, history_text};
 ghost use Rattle.history_text.specs.TextParts.{entries_text};
 ghost use Rattle.history_text.specs.Printing.{Prints};
 ghost use Rattle.history_text.specs.WordText.{word_text};

@@ -1,7 +1,7 @@
 // Pieces of a text on their way through the line.
 ghost use Rattle.std.specs.Prelude.{◌≡◌, ◌≤◌, [], ◌∷◌, OnOk, decimal, vec_capacity};
 ghost use Rattle.std.specs.Fmt.{signed_decimal};
-ghost use Rattle.ssd_geo.specs.EntryText.{dotted};
+ghost use Rattle.ssd_formats.specs.EntryText.{dotted};
 ghost use Rattle.history_text.specs.Printing.{Prints};
 
 use itoa::Buffer;

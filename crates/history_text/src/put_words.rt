@@ -1,6 +1,6 @@
 // The words of a line on their way through the line.
 ghost use Rattle.std.specs.Prelude.{[], ◌∷◌, ◌++◌, map};
-ghost use Rattle.ssd_geo.specs.EntryText.{line_of};
+ghost use Rattle.ssd_formats.specs.EntryText.{line_of};
 ghost use Rattle.history_text.specs.Printing.{Prints};
 ghost use Rattle.history_text.specs.WordText.{word_text, further_words};
 

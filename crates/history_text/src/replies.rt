@@ -1,9 +1,9 @@
 // The lines of replies.
 ghost use Rattle.std.specs.Prelude.{◌≡◌, ◌<◌, [], ◌∷◌, ◌++◌, map, false, decimal};
 ghost use Rattle.std.specs.Fmt.{digit_glyph};
-ghost use Rattle.ssd_geo.specs.Numbers.{hex_of_byte, hex_of_bytes};
-ghost use Rattle.ssd_geo.specs.EntryText.{line_of};
-ghost use Rattle.ssd_geo.specs.ReplyText.{actor_text, drained_text, refresh_text, reply_line};
+ghost use Rattle.ssd_formats.specs.Numbers.{hex_of_byte, hex_of_bytes};
+ghost use Rattle.ssd_formats.specs.EntryText.{line_of};
+ghost use Rattle.ssd_formats.specs.ReplyText.{actor_text, drained_text, refresh_text, reply_line};
 ghost use Rattle.history_text.specs.Printing.{Prints};
 ghost use Rattle.history_text.specs.TextParts.{replies_text};
 ghost use Rattle.history_text.specs.WordText.{word_text, further_words};

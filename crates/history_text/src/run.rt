@@ -1,10 +1,10 @@
 // What a run prints.
 ghost use Rattle.std.specs.Prelude.{◌≡◌, ℕ, ◌+◌, ◌-◌, ◌≤◌, [], ◌++◌, length, sum_by, if◌then◌else◌, OnOk, OnErr, vec_capacity};
 ghost use Rattle.std.specs.Io.KnownBytes.{Appends};
-ghost use Rattle.ssd_geo.specs.EntryText.{histories_text};
-ghost use Rattle.ssd_geo.specs.Faults.{HasCause};
-ghost use Rattle.ssd_geo.specs.ReplyText.{actors_text};
-ghost use Rattle.ssd_geo.specs.RunText.{answers_count, is_hinted, run_text, summary_of, summary_text, taken_by};
+ghost use Rattle.ssd_formats.specs.EntryText.{histories_text};
+ghost use Rattle.ssd_formats.specs.ReplyText.{actors_text};
+ghost use Rattle.ssd_formats.specs.RunText.{answers_count, is_hinted, run_text, summary_of, summary_text, taken_by};
+ghost use Rattle.ssd_io.specs.FaultCounts.{MatchesCount};
 ghost use Rattle.ssd_io.specs.Pieces.{AppendsFront};
 ghost use Rattle.history_text.specs.Places.{AsLong};
 ghost use Rattle.history_text.specs.Printing.{Prints};
@@ -131,7 +131,7 @@ pub fn print_run<O: Sink>(
     ensures front { let levels = length head.now.read_levels in
         let text = run_text whole levels histories.now kinds.now replies.now dropped in
         OnErr result (AppendsFront (O.written output.old) (O.written output.new) text) }
-    ensures cause { HasCause (O.faults output.old) (O.faults output.new) result }
+    ensures cause { MatchesCount (O.faults output.old) (O.faults output.new) result }
     ensures empty { OnOk result (line.new.items ≡ []) }
     ensures room { vec_capacity line.old ≤ vec_capacity line.new }
 {

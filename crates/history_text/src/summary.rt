@@ -1,7 +1,7 @@
 // The summary of counts.
 ghost use Rattle.std.specs.Prelude.{◌≡◌, ℕ, ◌+◌, ◌-◌, ◌^◌, ◌<◌, ◌≤◌, [], ◌∷◌, ◌++◌, length, map, codes, decimal};
-ghost use Rattle.ssd_geo.specs.EntryText.{line_of};
-ghost use Rattle.ssd_geo.specs.RunText.{count_line, summary_text};
+ghost use Rattle.ssd_formats.specs.EntryText.{line_of};
+ghost use Rattle.ssd_formats.specs.RunText.{count_line, summary_text};
 ghost use Rattle.history_text.specs.Printing.{Prints};
 ghost use Rattle.history_text.specs.SummaryText.{call_lines, entry_lines, last_lines, placed_summary};
 ghost use Rattle.history_text.specs.WordText.{word_text, further_words};

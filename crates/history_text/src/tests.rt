@@ -1,6 +1,6 @@
 //! What runs print, against texts written by hand.
 ghost use Rattle.std.specs.Prelude.{◌≡◌, ◌-◌, ◌≤◌, [], ◌∷◌, length, count_by, sum_by, IfOk};
-ghost use Rattle.ssd_geo.specs.RunText.{is_hinted, taken_by};
+ghost use Rattle.ssd_formats.specs.RunText.{is_hinted, taken_by};
 
 use super::*;
 use ssd_geo::{

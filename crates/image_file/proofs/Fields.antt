@@ -2,9 +2,10 @@
 use Rattle.std.proofs.Common.{◌≡◌, ℤ, ℕ, ◌+◌, ◌<◌, List, ◌++◌, length, take, Option, None, Some, Ok, Err, Bool, true, false, refl, ap, ◌∙◌, arith, nat_lt, le-ltb, take_all, take_at, drop_at, length-take-le, append-nil, length-append}
 use Rattle.std.specs.Int.{Width, byte_len, from_le_bytes}
 use Rattle.std.specs.Io.KnownBytes.{Consumes, IsAtEnd}
-use Rattle.ssd_geo.specs.Fields.{Fault, Reading, Rest, signed_field, signed_of_bytes, ◌>>=◌, found_or, passing, bytes_field, number_field, is_any}
-use Rattle.ssd_geo.specs.InputFaults.{short, range}
-use Rattle.image_file.specs.Gives.{IsTold, is_any_signed, rest_at}
+use Rattle.ssd_formats.specs.Fields.{Fault, Reading, Rest, signed_field, signed_of_bytes, ◌>>=◌, found_or, passing, bytes_field, number_field, is_any}
+use Rattle.ssd_formats.specs.InputFaults.{short, range}
+use Rattle.ssd_io.specs.Told.{IsTold}
+use Rattle.image_file.specs.Gives.{is_any_signed, rest_at}
 
 -- a field that isn't whole
 pub short_field : (a b : Option (List ℕ)) (place n : ℕ) (into : List ℕ) → IsTold a → n < length into → Consumes a b (take n into) → IsAtEnd b → bytes_field (length into) (rest_at place a) ≡ Err (place + n, short)

@@ -1,8 +1,9 @@
 -- The fields of fixed places are read in two parts.
 use Rattle.std.proofs.Common.{◌≡◌, ◌^◌, refl, pos, negsuc, Result, Ok, Err}
 use Rattle.std.specs.Int.{w8, w16, w32, w64}
-use Rattle.ssd_geo.specs.Fields.{Rest, ◌>>=◌, text_field, number_field, signed_field, is_any, is_below, is_within, is_signed_within}
-use Rattle.ssd_geo.specs.ImageHead.{fixed_fields, beginning, is_column_count, is_programmed_level, most_bytes, most_rows}
+use Rattle.ssd_formats.specs.Fields.{Rest, ◌>>=◌, text_field, number_field, signed_field, is_any, is_below}
+use Rattle.ssd_geo.specs.Limits.{is_within, is_signed_within}
+use Rattle.ssd_formats.specs.ImageHead.{fixed_fields, beginning, is_column_count, is_programmed_level, most_bytes, most_rows}
 use Rattle.image_file.specs.Fixed.{size_fields, later_fields, law_level_fields}
 
 -- after the same beginning the parts are taken one by one

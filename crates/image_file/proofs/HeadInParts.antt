@@ -1,8 +1,8 @@
 -- The head of an image is read in parts.
 use Rattle.std.proofs.Common.{◌≡◌, [], List, ℕ, refl}
 use Rattle.std.specs.Int.{w16}
-use Rattle.ssd_geo.specs.Fields.{number_field, is_any, level_fields}
-use Rattle.ssd_geo.specs.ImageHead.{read_head, fixed_fields, from_beginning, matrix_field, weak_records, bad_records}
+use Rattle.ssd_formats.specs.Fields.{number_field, is_any, level_fields}
+use Rattle.ssd_formats.specs.ImageHead.{read_head, fixed_fields, from_beginning, matrix_field, weak_records, bad_records}
 use Rattle.image_file.specs.HeadParts.{block_fields, head_fields}
 use Rattle.image_file.proofs.FixedParts.{ahead, then_same}
 

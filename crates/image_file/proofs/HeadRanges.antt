@@ -6,8 +6,9 @@ use Rattle.std.specs.Prelude.{FitsSigned, pos, negsuc, nat_lt, IsTrue, None, Opt
 use Rattle.std.specs.Int.{w16, from_le_bytes, cast_signed}
 use Rattle.std.specs.List.{list_all}
 use Rattle.ssd_geo.specs.BaseMatrix.{IsAccepted, first_fault}
-use Rattle.ssd_geo.specs.Fields.{is_within, is_below, is_signed_within}
-use Rattle.ssd_geo.specs.ImageHead.{IsHead, is_short, is_programmed_level, signed_numbers, head_of, matrix_of, sizes_of}
+use Rattle.ssd_formats.specs.Fields.{is_below}
+use Rattle.ssd_geo.specs.Limits.{is_within, is_signed_within}
+use Rattle.ssd_formats.specs.ImageHead.{IsHead, is_short, is_programmed_level, signed_numbers, head_of, matrix_of_head, sizes_of}
 use Rattle.ssd_geo.specs.declared.cell_law.CellLaw.{CellLaw}
 use Rattle.ssd_geo.specs.declared.head.ImageHead.{ImageHead}
 use Rattle.image_file.specs.Fixed.{AreFixed, AreSizes, fixed_of}
@@ -35,7 +36,7 @@ none_is : {A : Type 0} (x : Option A) → IsTrue (is_none x) → x ≡ None
 none_is x none = grind (arith, common_steps)
 
 -- the head with these parts
-pub head_is : (fixed : FixedFields) (head : ImageHead) → fixed.shape ≡ head.shape → fixed.iterations ≡ head.iterations → fixed.law ≡ head.law → fixed.step ≡ head.step → fixed.session ≡ head.session → AreFixed (fixed_of fixed) → AreLevels fixed.levels head.read_levels → IsTrue (list_all is_short head.entries) → IsAccepted (matrix_of (head_of head)) → AreBlocks (sizes_of head.shape) head.weak head.bad → IsHead (head_of head)
+pub head_is : (fixed : FixedFields) (head : ImageHead) → fixed.shape ≡ head.shape → fixed.iterations ≡ head.iterations → fixed.law ≡ head.law → fixed.step ≡ head.step → fixed.session ≡ head.session → AreFixed (fixed_of fixed) → AreLevels fixed.levels head.read_levels → IsTrue (list_all is_short head.entries) → IsAccepted (matrix_of_head (head_of head)) → AreBlocks (sizes_of head.shape) head.weak head.bad → IsHead (head_of head)
 head_is fixed head same_shape same_iterations same_law same_step same_session are levels short accepted blocks =
     let sizes = subst (λ s. AreSizes (sizes_of s)) same_shape are.sizes in
     record {
@@ -59,7 +60,7 @@ head_is fixed head same_shape same_iterations same_law same_step same_session ar
       levels = levels.within;
       entries = short;
       entry_count = accepted.within.entries;
-      faultless = none_is (first_fault (matrix_of (head_of head))) accepted.faultless;
+      faultless = none_is (first_fault (matrix_of_head (head_of head))) accepted.faultless;
       weak_count = blocks.weak_count;
       weak_from = blocks.are_weak.from;
       weak = blocks.are_weak.records;

@@ -1,12 +1,14 @@
 -- The steps of the lists of a head.
-use Rattle.std.proofs.Common.{◌≡◌, ◌≤◌, arith, ℕ, ℤ, suc, List, [], ◌∷◌, ◌++◌, Ok, Err, refl, sym, ◌∙◌}
-use Rattle.ssd_geo.specs.Fields.{Fault, Reading, Rest, level_fields, signed_field, is_level}
-use Rattle.ssd_geo.specs.ImageHead.{Sizes, weak_record, weak_records, bad_record, bad_records}
+use Rattle.std.proofs.Common.{◌≡◌, ℕ, ℤ, suc, List, [], ◌∷◌, ◌++◌, Ok, Err, refl, sym, subst, ◌∙◌}
+use Rattle.ssd_formats.specs.Fields.{Fault, Reading, Rest, level_fields, signed_field}
+use Rattle.ssd_geo.specs.Limits.{is_level}
+use Rattle.ssd_formats.specs.ImageHead.{Sizes, weak_record, weak_records, bad_record, bad_records}
 use Rattle.ssd_geo.specs.declared.weak.Weak.{Weak}
 use Rattle.image_file.specs.declared.stop.ImageFault.{ImageFault}
 use Rattle.image_file.specs.declared.stop.ReadStop.{ReadStop}
 use Rattle.image_file.specs.declared.stop.ReadStop.TheVariants.{Fault as FaultAt, ReadFault, DieFailed, Memory}
-use Rattle.image_file.specs.Gives.{StopsAt, StopHasCause, named_fault}
+use Rattle.image_file.specs.Gives.{StopsAt, named_fault}
+use Rattle.image_file.specs.StopCauses.{StopHasCause}
 
 -- one more level
 pub level_more : (n m : ℕ) (before : List ℤ) (rest next : Rest) (x : ℤ) → n ≡ suc m → signed_field is_level rest ≡ Ok (x, next) → level_fields m (before ++ x ∷ []) next ≡ level_fields n before rest
@@ -72,8 +74,5 @@ bad_stops sizes (DieFailed die) n m before rest whole long read same = absurd re
 bad_stops sizes Memory n m before rest whole long read same = tt
 
 -- a cause in a later part is one in the whole
-pub cause_earlier : (stop : ReadStop ImageFault) (first before now : ℕ) → first ≤ before → StopHasCause before now stop → StopHasCause first now stop
-cause_earlier (FaultAt at fault) first before now fewer cause = tt
-cause_earlier ReadFault first before now fewer cause = omega (arith, fewer, cause)
-cause_earlier (DieFailed die) first before now fewer cause = absurd cause
-cause_earlier Memory first before now fewer cause = tt
+pub cause_earlier : (stop : ReadStop ImageFault) (first before now : ℕ) → before ≡ first → StopHasCause before now stop → StopHasCause first now stop
+cause_earlier stop first before now same cause = subst (λ (n : ℕ). StopHasCause n now stop) same cause

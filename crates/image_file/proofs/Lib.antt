@@ -7,4 +7,3 @@ mod LevelSteps
 mod ListRanges
 mod MatrixSteps
 mod SpelledFields
-mod WriteSteps

@@ -1,10 +1,11 @@
 -- Lists of a head that stay in range when one more is read.
 use Rattle.std.proofs.Common.{◌≡◌, ℕ, ℤ, ◌+◌, ◌^◌, ◌<◌, true, List, [], ◌∷◌, ◌++◌, length, arith, refl, sym, ap, ◌∙◌, append_assoc, append-nil, length-append}
 use Rattle.std.specs.Prelude.{IsTrue}
-use Rattle.ssd_geo.proofs.HeadLaws.{both_of}
-use Rattle.ssd_geo.proofs.SpelledHeads.{all_snoc, below_if}
-use Rattle.ssd_geo.specs.Fields.{is_below, is_level}
-use Rattle.ssd_geo.specs.ImageHead.{Sizes, is_weak_record, are_weak_records, is_bad_record, are_bad_records}
+use Rattle.ssd_formats.proofs.HeadLaws.{both_of}
+use Rattle.ssd_formats.proofs.SpelledHeads.{all_snoc, below_if}
+use Rattle.ssd_formats.specs.Fields.{is_below}
+use Rattle.ssd_geo.specs.Limits.{is_level}
+use Rattle.ssd_formats.specs.ImageHead.{Sizes, is_weak_record, are_weak_records, is_bad_record, are_bad_records}
 use Rattle.ssd_geo.specs.declared.weak.Weak.{Weak}
 use Rattle.image_file.specs.Lists.{AreLevels, AreWeak, AreBad, AreBlocks}
 

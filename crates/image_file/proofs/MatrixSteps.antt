@@ -5,13 +5,14 @@ use Rattle.qc_matrix.specs.Fault.{IsFirstFault}
 use Rattle.qc_matrix.specs.declared.fault.CodeFault.{CodeFault}
 use Rattle.qc_matrix.specs.declared.fault.CodeFault.TheVariants.{EntryRange, ParityColumn, Diagonal as WrongDiagonal, Memory as NoMemory}
 use Rattle.ssd_geo.specs.BaseMatrix.{BaseMatrix, IsAccepted, first_fault}
-use Rattle.ssd_geo.specs.Fields.{Fault, Reading, Rest, signed_of_bytes, ◌>>=◌, bytes_field}
-use Rattle.ssd_geo.specs.ImageHead.{Sizes, matrix_field, matrix_fault, signed_numbers, unless_fault}
+use Rattle.ssd_formats.specs.Fields.{Fault, Reading, Rest, signed_of_bytes, ◌>>=◌, bytes_field}
+use Rattle.ssd_formats.specs.ImageHead.{Sizes, matrix_field, matrix_fault, signed_numbers, unless_fault}
 use Rattle.image_file.specs.declared.stop.ImageFault.{ImageFault}
 use Rattle.image_file.specs.declared.stop.ReadStop.{ReadStop}
 use Rattle.image_file.specs.declared.stop.ReadStop.TheVariants.{Fault as FaultAt, ReadFault, DieFailed, Memory}
-use Rattle.image_file.specs.Gives.{StopsAt, StopHasCause, named_fault}
+use Rattle.image_file.specs.Gives.{StopsAt, named_fault}
 use Rattle.image_file.specs.Matrix.{entries_field, matrix_stop}
+use Rattle.image_file.specs.StopCauses.{StopHasCause}
 
 -- two bytes more are one number more
 pub numbers_more : (bytes : List ℕ) (i : ℕ) (before whole : List ℤ) → 2 * i + 1 < length bytes → before ++ signed_numbers (drop (2 * i) bytes) ≡ whole → (before ++ signed_of_bytes (get_or bytes (2 * i) 0 ∷ get_or bytes (2 * i + 1) 0 ∷ []) ∷ []) ++ signed_numbers (drop (2 * (i + 1)) bytes) ≡ whole
@@ -93,9 +94,9 @@ matrix_stops ReadFault sizes rest read = tt
 matrix_stops (DieFailed die) sizes rest read = absurd read
 matrix_stops Memory sizes rest read = tt
 
--- a stop at a fault of the matrix has its cause in the matrix
-pub matrix_cause : (before now place mb nb : ℕ) (fault : CodeFault) → StopHasCause before now (matrix_stop place mb nb fault)
-matrix_cause before now place mb nb (EntryRange row col) = tt
-matrix_cause before now place mb nb (ParityColumn row) = tt
-matrix_cause before now place mb nb (WrongDiagonal row col) = tt
-matrix_cause before now place mb nb NoMemory = tt
+-- a stop at a fault of the matrix has its cause in the matrix: what was read before didn't fail
+pub matrix_cause : (before now place mb nb : ℕ) (fault : CodeFault) → now ≡ before → StopHasCause before now (matrix_stop place mb nb fault)
+matrix_cause before now place mb nb (EntryRange row col) same = same
+matrix_cause before now place mb nb (ParityColumn row) same = same
+matrix_cause before now place mb nb (WrongDiagonal row col) same = same
+matrix_cause before now place mb nb NoMemory same = same

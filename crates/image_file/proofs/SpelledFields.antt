@@ -2,7 +2,7 @@
 use Rattle.std.proofs.Common.{◌≡◌, ℕ, ◌%◌, ◌^◌, ◌<◌, [], ◌∷◌, ◌++◌, ap, append_assoc, arith}
 use Rattle.std.specs.Int.{w8, to_le_bytes}
 use Rattle.std.specs.Prelude.{if◌then◌else◌}
-use Rattle.ssd_geo.specs.ImageHead.{Head, head_bytes}
+use Rattle.ssd_formats.specs.ImageHead.{Head, head_bytes}
 use Rattle.image_file.specs.HeadBytes.{block_bytes, code_bytes, fixed_bytes, law_bytes, size_bytes}
 
 -- a number below 256 is its own byte

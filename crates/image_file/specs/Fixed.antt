@@ -4,8 +4,9 @@ use Rattle.std.specs.Prelude.{IsTrue, ℕ, ℤ, ◌^◌, negsuc, pos, Ok}
 use Rattle.std.specs.Int.{w8, w16, w32, w64}
 use Rattle.image_file.specs.declared.fixed.FixedFields.{FixedFields}
 use Rattle.image_file.specs.declared.fixed.SizeFields.{SizeFields}
-use Rattle.ssd_geo.specs.Fields.{Rest, Reading, ◌>>=◌, number_field, signed_field, text_field, is_any, is_within, is_below, is_signed_within}
-use Rattle.ssd_geo.specs.ImageHead.{Fixed, Sizes, sizes_of, beginning, is_column_count, is_programmed_level, most_bytes, most_rows}
+use Rattle.ssd_formats.specs.Fields.{Rest, Reading, ◌>>=◌, number_field, signed_field, text_field, is_any, is_below}
+use Rattle.ssd_geo.specs.Limits.{is_within, is_signed_within}
+use Rattle.ssd_formats.specs.ImageHead.{Fixed, Sizes, sizes_of, beginning, is_column_count, is_programmed_level, most_bytes, most_rows}
 
 -- the sizes, the number of read levels and the greatest number of iterations
 pub record SizesRead : Type 0 where

@@ -1,10 +1,12 @@
 -- What does a call answer that reads a part of an image from a source, where the source tells the bytes that it has
 -- left? It answers what the definition of that part reads from them. Only a failed read of the source and want of
 -- memory may come in its place.
-use Rattle.std.specs.Prelude.{◌≡◌, ℕ, ℤ, Bool, true, List, [], Option, Some, None, Result, Ok, Err}
-use Rattle.ssd_geo.specs.Fields.{Reading, Rest}
-use Rattle.ssd_geo.specs.Faults.{NeverFell, Rose}
-use Rattle.ssd_geo.specs.InputFaults.{ImageFault, short, magic, range, entry, parity, diagonal, order, state, count, sum, row}
+use Rattle.std.specs.Prelude.{◌≡◌, ℕ, ℤ, Bool, true, List, Option, Result, Ok, Err}
+use Rattle.ssd_formats.specs.Fields.{Reading, Rest}
+use Rattle.ssd_geo.specs.Faults.{NeverFell}
+use Rattle.ssd_formats.specs.InputFaults.{ImageFault, short, magic, range, entry, parity, diagonal, order, state, count, sum, row}
+use Rattle.ssd_io.specs.Told.{IsTold, told_bytes}
+use Rattle.image_file.specs.StopCauses.{AnswerHasCause}
 use Rattle.image_file.specs.declared.stop.ImageFault.{ImageFault as ImageFaultAnswer}
 use Rattle.image_file.specs.declared.stop.ImageFault.TheVariants.{Short, Magic, Range, Entry, Parity, Diagonal, Order, State, Count, Sum, Row}
 use Rattle.image_file.specs.declared.stop.ReadStop.{ReadStop}
@@ -24,16 +26,6 @@ named_fault Count = count
 named_fault Sum = sum
 named_fault Row = row
 
--- the source tells the bytes that it has left
-abbrev pub IsTold : Option (List ℕ) → Type 0
-IsTold None = ⊥
-IsTold (Some bytes) = Unit {0}
-
--- the bytes left, where they are told
-abbrev pub told_bytes : Option (List ℕ) → List ℕ
-told_bytes None = []
-told_bytes (Some bytes) = bytes
-
 -- what is left to read of an image, of which so many bytes were read
 abbrev pub rest_at : ℕ → Option (List ℕ) → Rest
 rest_at place left = record { place = place; bytes = told_bytes left }
@@ -49,17 +41,6 @@ StopsAt Memory reading = Unit {0}
 abbrev pub Gives : {X A : Type 0} → (X → A) → Result X (ReadStop ImageFaultAnswer) → ℕ → Option (List ℕ) → Reading A → Type 0
 Gives view (Ok value) next after reading = IsTold after × (reading ≡ Ok (view value, rest_at next after))
 Gives view (Err stop) next after reading = StopsAt stop reading
-
--- The count of faults didn't fall, and a failed read of the source is answered only where it rose.
-abbrev pub StopHasCause : ℕ → ℕ → ReadStop ImageFaultAnswer → Type 0
-StopHasCause before now (FaultAt at fault) = Unit {0}
-StopHasCause before now ReadFault = Rose before now
-StopHasCause before now (DieFailed die) = ⊥
-StopHasCause before now Memory = Unit {0}
-
-abbrev pub AnswerHasCause : {X : Type 0} → ℕ → ℕ → Result X (ReadStop ImageFaultAnswer) → Type 0
-AnswerHasCause before now (Ok value) = Unit {0}
-AnswerHasCause before now (Err stop) = StopHasCause before now stop
 
 -- What a call did that reads a part of an image from a place on, up to another place.
 pub record Reads {X A : Type 0} (view : X → A) (before after : Option (List ℕ)) (faults_before faults_after place next : ℕ) (result : Result X (ReadStop ImageFaultAnswer)) (reading : Rest → Reading A) : Type 0 where

@@ -2,8 +2,8 @@
 -- fixed places, the read levels and the base matrix, and the lists of blocks, each behind its number.
 use Rattle.std.specs.Prelude.{ℕ, ◌++◌, List, length, flat_map}
 use Rattle.std.specs.Int.{w8, w16, w32, w64, to_le_bytes}
-use Rattle.ssd_geo.specs.Fields.{bytes_of_signed}
-use Rattle.ssd_geo.specs.ImageHead.{Head, Sizes, beginning, weak_bytes, bad_bytes}
+use Rattle.ssd_formats.specs.Fields.{bytes_of_signed}
+use Rattle.ssd_formats.specs.ImageHead.{Head, Sizes, beginning, weak_bytes, bad_bytes}
 use Rattle.ssd_geo.specs.declared.cell_law.CellLaw.{CellLaw}
 use Rattle.ssd_geo.specs.declared.weak.Weak.{Weak}
 

@@ -1,10 +1,9 @@
 -- What does the call answer that reads the head of an image? Where the source tells its bytes it answers the head that
 -- they begin with, or their first fault. Only a failed read of the source and want of memory may come in its place.
 use Rattle.std.specs.Prelude.{ℕ, List, Option, Some, None, Result, Ok, Err}
-use Rattle.ssd_geo.specs.Faults.{NeverFell}
-use Rattle.ssd_geo.specs.Input.{HasHead, HasNoHead}
+use Rattle.ssd_formats.specs.Input.{HasHead, HasNoHead}
 use Rattle.ssd_geo.specs.declared.head.ImageHead.{ImageHead}
-use Rattle.image_file.specs.Gives.{AnswerHasCause, named_fault}
+use Rattle.image_file.specs.Gives.{named_fault}
 use Rattle.image_file.specs.declared.stop.ImageFault.{ImageFault}
 use Rattle.image_file.specs.declared.stop.ReadStop.{ReadStop}
 use Rattle.image_file.specs.declared.stop.ReadStop.TheVariants.{Fault as FaultAt, ReadFault, DieFailed, Memory}
@@ -22,8 +21,3 @@ ReadsHead None left result = Unit {0}
 ReadsHead (Some bytes) None (Ok head) = ⊥
 ReadsHead (Some bytes) (Some left) (Ok head) = HasHead bytes head left
 ReadsHead (Some bytes) left (Err stop) = StopsHead bytes stop
-
--- The count of faults didn't fall, a failed read of the source is answered only where it rose, and a die's never.
-pub record StopsWithCause {X : Type 0} (before now : ℕ) (result : Result X (ReadStop ImageFault)) : Type 0 where
-  pub never_fell : NeverFell before now
-  pub cause : AnswerHasCause before now result

@@ -5,4 +5,4 @@ pub mod HeadGiven
 pub mod HeadParts
 pub mod Lists
 pub mod Matrix
-pub mod Writes
+pub mod StopCauses

@@ -2,8 +2,9 @@
 -- the tests of its record, after those before it.
 use Rattle.std.specs.Prelude.{◌≡◌, ℕ, ℤ, IsTrue, ◌^◌, List, [], length}
 use Rattle.std.specs.List.{list_all}
-use Rattle.ssd_geo.specs.Fields.{is_below, is_level}
-use Rattle.ssd_geo.specs.ImageHead.{Sizes, are_weak_records, are_bad_records}
+use Rattle.ssd_formats.specs.Fields.{is_below}
+use Rattle.ssd_geo.specs.Limits.{is_level}
+use Rattle.ssd_formats.specs.ImageHead.{Sizes, are_weak_records, are_bad_records}
 use Rattle.ssd_geo.specs.declared.weak.Weak.{Weak}
 
 -- so many read levels

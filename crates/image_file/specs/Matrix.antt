@@ -4,8 +4,8 @@ use Rattle.std.specs.Prelude.{ℕ, ℤ, ◌+◌, ◌-◌, ◌*◌, List, Ok}
 use Rattle.qc_matrix.specs.declared.fault.CodeFault.{CodeFault}
 use Rattle.qc_matrix.specs.declared.fault.CodeFault.TheVariants.{EntryRange, ParityColumn, Diagonal as WrongDiagonal, Memory as NoMemory}
 use Rattle.ssd_geo.specs.BaseMatrix.{BaseMatrix}
-use Rattle.ssd_geo.specs.Fields.{Rest, Reading, ◌>>=◌, bytes_field}
-use Rattle.ssd_geo.specs.ImageHead.{signed_numbers}
+use Rattle.ssd_formats.specs.Fields.{Rest, Reading, ◌>>=◌, bytes_field}
+use Rattle.ssd_formats.specs.ImageHead.{signed_numbers}
 use Rattle.ssd_geo.specs.declared.shape.Shape.{Shape}
 use Rattle.image_file.specs.declared.stop.ImageFault.{ImageFault}
 use Rattle.image_file.specs.declared.stop.ImageFault.TheVariants.{Entry, Parity, Diagonal}

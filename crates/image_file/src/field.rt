@@ -1,7 +1,8 @@
 // Fields of an image, each at its place.
 ghost use Rattle.std.specs.Prelude.{◌≡◌, ◌+◌, ◌^◌, ◌<◌, ◌≤◌, IfOk, IsTrue, length};
 ghost use Rattle.std.specs.Int.{w8, w16, w32, w64};
-ghost use Rattle.ssd_geo.specs.Fields.{bytes_field, is_any, is_below, is_signed_within, is_within, number_field, signed_field};
+ghost use Rattle.ssd_formats.specs.Fields.{bytes_field, is_any, is_below, number_field, signed_field};
+ghost use Rattle.ssd_geo.specs.Limits.{is_signed_within, is_within};
 ghost use Rattle.image_file.specs.Gives.{is_any_signed, Reads};
 
 use crate::fill::fill;

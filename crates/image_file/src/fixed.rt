@@ -1,8 +1,9 @@
 // The fields of fixed places.
 ghost use Rattle.std.specs.Prelude.{◌≡◌, ◌+◌, ◌^◌, ◌<◌, ◌≤◌, ◌*◌, IfOk, IsTrue, negsuc, pos};
 ghost use Rattle.std.specs.Int.{w8};
-ghost use Rattle.ssd_geo.specs.Fields.{is_any, is_signed_within, number_field, signed_field, text_field};
-ghost use Rattle.ssd_geo.specs.ImageHead.{beginning, fixed_fields, is_column_count, is_programmed_level, most_bytes, most_rows};
+ghost use Rattle.ssd_formats.specs.Fields.{is_any, number_field, signed_field, text_field};
+ghost use Rattle.ssd_geo.specs.Limits.{is_signed_within};
+ghost use Rattle.ssd_formats.specs.ImageHead.{beginning, fixed_fields, is_column_count, is_programmed_level, most_bytes, most_rows};
 ghost use Rattle.image_file.specs.Fixed.{AreFixed, AreSizesRead, fixed_of, law_level_fields, later_fields, size_fields, sizes_read_of};
 ghost use Rattle.image_file.specs.Gives.{Reads};
 

@@ -1,9 +1,10 @@
 // The head of an image.
 ghost use Rattle.std.specs.Prelude.{◌^◌, ◌<◌, IfOk};
-ghost use Rattle.ssd_geo.specs.ImageHead.{IsHead, head_of};
+ghost use Rattle.ssd_formats.specs.ImageHead.{IsHead, head_of};
 ghost use Rattle.image_file.specs.Gives.{ReadsUpTo};
-ghost use Rattle.image_file.specs.HeadGiven.{ReadsHead, StopsWithCause};
+ghost use Rattle.image_file.specs.HeadGiven.{ReadsHead};
 ghost use Rattle.image_file.specs.HeadParts.{head_fields};
+ghost use Rattle.image_file.specs.StopCauses.{StopsWithCause};
 
 use crate::blocks::read_blocks;
 use crate::field::u8_within;

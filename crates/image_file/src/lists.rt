@@ -1,7 +1,7 @@
 // The lists of an image's head.
 ghost use Rattle.std.specs.Prelude.{◌+◌, ◌*◌, ◌^◌, ◌<◌, ◌≤◌, ◌≡◌, [], IfOk, IsTrue, length};
-ghost use Rattle.ssd_geo.specs.Fields.{level_fields};
-ghost use Rattle.ssd_geo.specs.ImageHead.{bad_of_channel, bad_record, bad_records, weak_records, rows_fit, comes_after, is_bad_record, is_weak_record, is_bad_before, is_weak_before, sizes_of, weak_record};
+ghost use Rattle.ssd_formats.specs.Fields.{level_fields};
+ghost use Rattle.ssd_formats.specs.ImageHead.{bad_of_channel, bad_record, bad_records, weak_records, rows_fit, comes_after, is_bad_record, is_weak_record, is_bad_before, is_weak_before, sizes_of, weak_record};
 ghost use Rattle.image_file.specs.Gives.{Reads};
 ghost use Rattle.image_file.specs.Lists.{AreBad, AreLevels, AreWeak};
 
@@ -53,7 +53,7 @@ fn follows_weak(before: &[Weak], next: &Weak) -> bool
 }
 
 /// A weak block, after those before.
-#[tactic(auto, unfolding(ssd_geo::specs::ImageHead::weak_record))]
+#[tactic(auto, unfolding(ssd_formats::specs::ImageHead::weak_record))]
 pub fn read_weak<S: Source>(
     input: &mut S,
     place: u64,
@@ -117,7 +117,7 @@ fn fits_rows(shape: &Shape, before: &[(u8, u16)], channel: u8) -> bool
 }
 
 /// A factory bad superblock, a channel and a superblock, after those before.
-#[tactic(auto, unfolding(ssd_geo::specs::ImageHead::bad_record))]
+#[tactic(auto, unfolding(ssd_formats::specs::ImageHead::bad_record))]
 pub fn read_bad<S: Source>(
     input: &mut S,
     place: u64,

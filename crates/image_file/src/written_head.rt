@@ -2,12 +2,12 @@
 ghost use Rattle.std.specs.Prelude.{◌≡◌, ◌^◌, ◌<◌, flat_map, if◌then◌else◌, length, OnOk, OnErr};
 ghost use Rattle.std.specs.Int.{to_le_bytes, w8};
 ghost use Rattle.std.specs.Io.KnownBytes.{Appends};
-ghost use Rattle.ssd_geo.specs.Faults.{HasCause};
-ghost use Rattle.ssd_geo.specs.Fields.{bytes_of_signed};
-ghost use Rattle.ssd_geo.specs.ImageHead.{IsHead, head_bytes, head_of, sizes_of};
+ghost use Rattle.ssd_io.specs.FaultCounts.{MatchesCount};
+ghost use Rattle.ssd_formats.specs.Fields.{bytes_of_signed};
+ghost use Rattle.ssd_formats.specs.ImageHead.{IsHead, head_bytes, head_of, sizes_of};
 ghost use Rattle.ssd_io.specs.Pieces.{AppendsFront};
 ghost use Rattle.image_file.specs.HeadBytes.{bad_list_bytes, block_bytes, code_bytes, fixed_bytes, law_bytes, size_bytes, weak_list_bytes};
-ghost use Rattle.image_file.specs.Writes.{Writes};
+ghost use Rattle.ssd_io.specs.Writes.{Writes};
 
 use crate::written_lists::{put, write_bad_list, write_numbers, write_weak_list};
 use ssd_geo::{CellLaw, ImageHead, Shape};
@@ -74,16 +74,14 @@ fn spell_law(law: &CellLaw, step: u16, session: u32) -> [u8; 20]
 fn write_sizes<O: Sink>(output: &mut O, head: &ImageHead) -> Result<(), Failed>
     requires { length head.now.read_levels < 2 ^ 8 }
     ensures { let levels = length head.now.read_levels in
-        Writes (O.written output.old) (O.written output.new) (O.faults output.old) (O.faults output.new)
-        result (size_bytes (sizes_of head.now.shape) levels head.now.iterations) }
+        Writes O.written O.faults output.old output.new result (size_bytes (sizes_of head.now.shape) levels head.now.iterations) }
 {
     let levels = head.read_levels.len() as u8;
     put(output, &spell_sizes(&head.shape, levels, head.iterations))
 }
 
 fn write_law<O: Sink>(output: &mut O, head: &ImageHead) -> Result<(), Failed>
-    ensures { Writes (O.written output.old) (O.written output.new) (O.faults output.old) (O.faults output.new)
-        result (law_bytes head.now.law head.now.step head.now.session) }
+    ensures { Writes O.written O.faults output.old output.new result (law_bytes head.now.law head.now.step head.now.session) }
 {
     put(output, &spell_law(&head.law, head.step, head.session))
 }
@@ -92,23 +90,20 @@ fn write_law<O: Sink>(output: &mut O, head: &ImageHead) -> Result<(), Failed>
 #[tactic(auto, unfolding(crate::specs::HeadBytes::fixed_bytes))]
 fn write_fixed<O: Sink>(output: &mut O, head: &ImageHead) -> Result<(), Failed>
     requires { length head.now.read_levels < 2 ^ 8 }
-    ensures { Writes (O.written output.old) (O.written output.new) (O.faults output.old) (O.faults output.new)
-        result (fixed_bytes (head_of head.now)) }
+    ensures { Writes O.written O.faults output.old output.new result (fixed_bytes (head_of head.now)) }
 {
     write_sizes(output, head)?;
     write_law(output, head)
 }
 
 fn write_levels<O: Sink>(output: &mut O, head: &ImageHead) -> Result<(), Failed>
-    ensures { Writes (O.written output.old) (O.written output.new) (O.faults output.old) (O.faults output.new)
-        result (flat_map bytes_of_signed head.now.read_levels) }
+    ensures { Writes O.written O.faults output.old output.new result (flat_map bytes_of_signed head.now.read_levels) }
 {
     write_numbers(output, head.read_levels.as_slice())
 }
 
 fn write_entries<O: Sink>(output: &mut O, head: &ImageHead) -> Result<(), Failed>
-    ensures { Writes (O.written output.old) (O.written output.new) (O.faults output.old) (O.faults output.new)
-        result (flat_map bytes_of_signed head.now.entries) }
+    ensures { Writes O.written O.faults output.old output.new result (flat_map bytes_of_signed head.now.entries) }
 {
     write_numbers(output, head.entries.as_slice())
 }
@@ -116,8 +111,7 @@ fn write_entries<O: Sink>(output: &mut O, head: &ImageHead) -> Result<(), Failed
 // The read levels and the base matrix.
 #[tactic(auto, unfolding(crate::specs::HeadBytes::code_bytes))]
 fn write_code<O: Sink>(output: &mut O, head: &ImageHead) -> Result<(), Failed>
-    ensures { Writes (O.written output.old) (O.written output.new) (O.faults output.old) (O.faults output.new)
-        result (code_bytes (head_of head.now)) }
+    ensures { Writes O.written O.faults output.old output.new result (code_bytes (head_of head.now)) }
 {
     write_levels(output, head)?;
     write_entries(output, head)
@@ -125,16 +119,14 @@ fn write_code<O: Sink>(output: &mut O, head: &ImageHead) -> Result<(), Failed>
 
 fn write_weak_of<O: Sink>(output: &mut O, head: &ImageHead) -> Result<(), Failed>
     requires { length head.now.weak < 2 ^ 16 }
-    ensures { Writes (O.written output.old) (O.written output.new) (O.faults output.old) (O.faults output.new)
-        result (weak_list_bytes head.now.weak) }
+    ensures { Writes O.written O.faults output.old output.new result (weak_list_bytes head.now.weak) }
 {
     write_weak_list(output, head.weak.as_slice())
 }
 
 fn write_bad_of<O: Sink>(output: &mut O, head: &ImageHead) -> Result<(), Failed>
     requires { length head.now.bad < 2 ^ 16 }
-    ensures { Writes (O.written output.old) (O.written output.new) (O.faults output.old) (O.faults output.new)
-        result (bad_list_bytes head.now.bad) }
+    ensures { Writes O.written O.faults output.old output.new result (bad_list_bytes head.now.bad) }
 {
     write_bad_list(output, head.bad.as_slice())
 }
@@ -144,8 +136,7 @@ fn write_bad_of<O: Sink>(output: &mut O, head: &ImageHead) -> Result<(), Failed>
 fn write_blocks<O: Sink>(output: &mut O, head: &ImageHead) -> Result<(), Failed>
     requires weak { length head.now.weak < 2 ^ 16 }
     requires bad { length head.now.bad < 2 ^ 16 }
-    ensures { Writes (O.written output.old) (O.written output.new) (O.faults output.old) (O.faults output.new)
-        result (block_bytes (head_of head.now)) }
+    ensures { Writes O.written O.faults output.old output.new result (block_bytes (head_of head.now)) }
 {
     write_weak_of(output, head)?;
     write_bad_of(output, head)
@@ -153,8 +144,7 @@ fn write_blocks<O: Sink>(output: &mut O, head: &ImageHead) -> Result<(), Failed>
 
 // Whether contents follow.
 fn write_contents<O: Sink>(output: &mut O, full: bool) -> Result<(), Failed>
-    ensures { Writes (O.written output.old) (O.written output.new) (O.faults output.old) (O.faults output.new)
-        result (to_le_bytes w8 (if full then 1 else 0)) }
+    ensures { Writes O.written O.faults output.old output.new result (to_le_bytes w8 (if full then 1 else 0)) }
 {
     put(output, if full { &[1] } else { &[0] })
 }
@@ -162,8 +152,7 @@ fn write_contents<O: Sink>(output: &mut O, full: bool) -> Result<(), Failed>
 // The head, part by part.
 fn write_parts<O: Sink>(output: &mut O, head: &ImageHead) -> Result<(), Failed>
     requires { IsHead (head_of head.now) }
-    ensures { Writes (O.written output.old) (O.written output.new) (O.faults output.old) (O.faults output.new)
-        result (head_bytes (head_of head.now)) }
+    ensures { Writes O.written O.faults output.old output.new result (head_bytes (head_of head.now)) }
 {
     write_fixed(output, head)?;
     write_code(output, head)?;
@@ -176,7 +165,7 @@ pub fn write_head<O: Sink>(output: &mut O, head: &ImageHead) -> Result<(), Faile
     requires { IsHead (head_of head.now) }
     ensures all { OnOk result (Appends (O.written output.old) (O.written output.new) (head_bytes (head_of head.now))) }
     ensures front { OnErr result (AppendsFront (O.written output.old) (O.written output.new) (head_bytes (head_of head.now))) }
-    ensures cause { HasCause (O.faults output.old) (O.faults output.new) result }
+    ensures cause { MatchesCount (O.faults output.old) (O.faults output.new) result }
 {
     write_parts(output, head)
 }

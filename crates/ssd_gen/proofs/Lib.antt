@@ -2,4 +2,3 @@ mod LineParts
 mod Ranges
 mod RowSteps
 mod WorkParts
-mod WriteSteps

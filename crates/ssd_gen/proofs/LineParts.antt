@@ -1,7 +1,7 @@
 -- A line is its first word, the others after spaces, and LF.
 use Rattle.std.proofs.Common.{◌≡◌, List, [], ◌∷◌, ◌++◌, map, sym, ap, ◌∙◌, append_assoc, append-nil}
-use Rattle.ssd_geo.specs.EntryText.{line_of, spaced}
-use Rattle.ssd_geo.specs.Numbers.{Text}
+use Rattle.ssd_formats.specs.EntryText.{line_of, spaced}
+use Rattle.ssd_formats.specs.Numbers.{Text}
 use Rattle.ssd_gen.specs.LineText.{further_text, word_text}
 use Rattle.ssd_gen.specs.declared.line_word.LineWord.{LineWord}
 

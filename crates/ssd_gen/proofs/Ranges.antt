@@ -1,7 +1,6 @@
--- The pieces of a list and those of the numbers from 0, up to one of them and behind it.
-use Rattle.std.proofs.Common.{◌≡◌, ℕ, zero, suc, ◌+◌, ◌-◌, ◌<◌, List, [], ◌∷◌, ◌++◌, length, take, drop, get_or, sym, ap, ◌∙◌, append-nil, drop-cons, add-one, arith, take-append-drop}
+-- The pieces of the numbers from 0, up to one of them and behind it.
+use Rattle.std.proofs.Common.{◌≡◌, ℕ, zero, suc, ◌+◌, ◌-◌, ◌<◌, List, [], ◌∷◌, ◌++◌, sym, ap, ◌∙◌, append-nil, arith}
 use Rattle.std.proofs.lemmas.Grind.{flat_map-append}
-use Rattle.std.proofs.lemmas.List.{take_more}
 use Rattle.std.specs.List.{range_with_len}
 use Rattle.std.specs.Prelude.{flat_map}
 
@@ -41,13 +40,3 @@ numbers_behind piece i n = flat_map piece (range_with_len (i + 1) (n - suc i))
 
 pub numbers_at : (piece : ℕ → List ℕ) (i n : ℕ) → i < n → flat_map piece (range_with_len 0 n) ≡ flat_map piece (range_with_len 0 i) ++ (piece i ++ numbers_behind piece i n)
 numbers_at piece i n within = ap (flat_map piece) (range_at i n within) ∙ flat_map-append piece (range_with_len 0 i) (i ∷ range_with_len (i + 1) (n - suc i))
-
--- the pieces of a list's items: those before one and its own, and those behind it
-pub items_more : {A : Type 0} (piece : A → List ℕ) (xs : List A) (i : ℕ) (d : A) → i < length xs → flat_map piece (take (i + 1) xs) ≡ flat_map piece (take i xs) ++ piece (get_or xs i d)
-items_more piece xs i d within =
-    ap (flat_map piece) (take_more xs i d within) ∙ flat_map-append piece (take i xs) (get_or xs i d ∷ []) ∙ ap (λ l. flat_map piece (take i xs) ++ l) (append-nil (piece (get_or xs i d)))
-
-pub items_at : {A : Type 0} (piece : A → List ℕ) (xs : List A) (i : ℕ) (d : A) → i < length xs → flat_map piece xs ≡ flat_map piece (take i xs) ++ (piece (get_or xs i d) ++ flat_map piece (drop (i + 1) xs))
-items_at piece xs i d within =
-    let next : drop i xs ≡ get_or xs i d ∷ drop (i + 1) xs = drop-cons xs i d within ∙ ap (λ n. get_or xs i d ∷ drop n xs) (sym (add-one i)) in
-    ap (flat_map piece) (sym (take-append-drop i xs)) ∙ flat_map-append piece (take i xs) (drop i xs) ∙ ap (λ l. flat_map piece (take i xs) ++ flat_map piece l) next

@@ -8,9 +8,9 @@ use Rattle.std.specs.Int.RustNames.{FitsSigned}
 use Rattle.std.specs.List.{range_with_len, sum_by}
 use Rattle.rand_xoshiro.specs.SplitMix64.{mix_u64, next_state}
 use Rattle.std.proofs.lemmas.Bool.{ltb-false, ltb-true}
-use Rattle.ssd_geo.specs.GeneratedWork.{drawn_before_row, drawn_in_row, generated_columns, is_drawn}
+use Rattle.ssd_formats.specs.GeneratedWork.{drawn_before_row, drawn_in_row, generated_columns, is_drawn}
 use Rattle.ssd_geo.specs.Noise.{noise_word, state_after}
-use Rattle.ssd_geo.specs.Fields.{bytes_of_signed}
+use Rattle.ssd_formats.specs.Fields.{bytes_of_signed}
 use Rattle.ssd_gen.specs.RowWords.{drawn_at, entry_bytes, entry_with, words_before, words_of_row}
 use Rattle.ssd_gen.proofs.Ranges.{range_more}
 

@@ -5,9 +5,9 @@ use Rattle.std.specs.List.{range_with_len}
 use Rattle.std.proofs.lemmas.Bool.{ltb-true}
 use Rattle.std.proofs.lemmas.Grind.{flat_map-append}
 use Rattle.ssd_geo.specs.BaseMatrix.{diagonal_entry, zero_block}
-use Rattle.ssd_geo.specs.Fields.{bytes_of_signed}
-use Rattle.ssd_geo.specs.GeneratedWork.{drawn_before_row, drawn_in_row, first_parity_entry, generated_entries, generated_entry, generated_head, generated_line, generated_line_of, generated_row, generated_sizes, generated_trace, is_drawn, message_entry}
-use Rattle.ssd_geo.specs.ImageHead.{Head, head_bytes}
+use Rattle.ssd_formats.specs.Fields.{bytes_of_signed}
+use Rattle.ssd_formats.specs.GeneratedWork.{drawn_before_row, drawn_in_row, first_parity_entry, generated_entries, generated_entry, generated_head, generated_line, generated_line_of, generated_row, generated_sizes, generated_trace, is_drawn, message_entry}
+use Rattle.ssd_formats.specs.ImageHead.{Head, head_bytes}
 use Rattle.ssd_geo.specs.Noise.{noise_word, state_after}
 use Rattle.ssd_gen.specs.HeadParts.{head_end, head_start, matrix_bytes, words_of_matrix}
 use Rattle.ssd_gen.specs.RowWords.{entry_bytes, entry_with, row_bytes, words_before}

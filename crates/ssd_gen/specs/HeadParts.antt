@@ -2,8 +2,8 @@
 -- stands behind it.
 use Rattle.std.specs.Prelude.{ℕ, List, [], ◌∷◌, ◌++◌, flat_map}
 use Rattle.std.specs.Int.{to_le_bytes, w64}
-use Rattle.ssd_geo.specs.Fields.{bytes_of_signed}
-use Rattle.ssd_geo.specs.GeneratedWork.{drawn_before_row, generated_entries}
+use Rattle.ssd_formats.specs.Fields.{bytes_of_signed}
+use Rattle.ssd_formats.specs.GeneratedWork.{drawn_before_row, generated_entries}
 
 -- the bytes before the base matrix: up to the seed, the seed, and those behind it
 unfoldable pub head_start : ℕ → List ℕ

@@ -2,4 +2,3 @@ pub mod HeadParts
 pub mod LineText
 pub mod RowWords
 pub mod TraceParts
-pub mod Writes

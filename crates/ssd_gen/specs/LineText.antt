@@ -1,6 +1,6 @@
 -- How does a word of a line stand in a trace?
 use Rattle.std.specs.Prelude.{List, ◌∷◌, ◌++◌, flat_map, codes, decimal}
-use Rattle.ssd_geo.specs.Numbers.{Text}
+use Rattle.ssd_formats.specs.Numbers.{Text}
 use Rattle.ssd_gen.specs.declared.line_word.LineWord.{LineWord}
 use Rattle.ssd_gen.specs.declared.line_word.LineWord.TheVariants.{Name, Number, Data}
 

@@ -2,8 +2,8 @@
 use Rattle.std.specs.Prelude.{ℕ, ◌-◌, ◌%◌, ◌==◌, nat_lt, ◌&&◌, min, if◌then◌else◌, List, flat_map, ℤ, pos}
 use Rattle.std.specs.List.{range_with_len}
 use Rattle.ssd_geo.specs.BaseMatrix.{diagonal_entry, zero_block}
-use Rattle.ssd_geo.specs.Fields.{bytes_of_signed}
-use Rattle.ssd_geo.specs.GeneratedWork.{drawn_in_row, first_parity_entry, generated_columns, is_drawn}
+use Rattle.ssd_formats.specs.Fields.{bytes_of_signed}
+use Rattle.ssd_formats.specs.GeneratedWork.{drawn_in_row, first_parity_entry, generated_columns, is_drawn}
 use Rattle.ssd_geo.specs.Noise.{noise_word}
 
 -- an entry, with the word that is next

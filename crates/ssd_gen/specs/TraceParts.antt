@@ -1,10 +1,10 @@
 -- What is the generated trace, given the state in which the generator comes to it?
 use Rattle.std.specs.Prelude.{ℕ, [], ◌∷◌, ◌++◌, flat_map, codes}
 use Rattle.std.specs.List.{range_with_len}
-use Rattle.ssd_geo.specs.EntryText.{line_of}
-use Rattle.ssd_geo.specs.GeneratedWork.{generated_line_of}
+use Rattle.ssd_formats.specs.EntryText.{line_of}
+use Rattle.ssd_formats.specs.GeneratedWork.{generated_line_of}
 use Rattle.ssd_geo.specs.Noise.{noise_word}
-use Rattle.ssd_geo.specs.Numbers.{Text}
+use Rattle.ssd_formats.specs.Numbers.{Text}
 
 -- the line of a call
 abbrev pub call_text : ℕ → ℕ → Text

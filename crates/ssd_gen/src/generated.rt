@@ -1,9 +1,9 @@
 ghost use Rattle.std.specs.Prelude.{OnOk, OnErr};
 ghost use Rattle.std.specs.Io.KnownBytes.{Appends};
-ghost use Rattle.ssd_geo.specs.Faults.{HasCause};
-ghost use Rattle.ssd_geo.specs.GeneratedWork.{generated_work};
+ghost use Rattle.ssd_formats.specs.GeneratedWork.{generated_work};
+ghost use Rattle.ssd_io.specs.FaultCounts.{MatchesCount};
 ghost use Rattle.ssd_io.specs.Pieces.{AppendsFront};
-ghost use Rattle.ssd_gen.specs.Writes.{Writes};
+ghost use Rattle.ssd_io.specs.Writes.{Writes};
 
 use crate::head::put_image;
 use crate::trace::put_trace;
@@ -26,7 +26,7 @@ pub fn gen_into<O: Sink>(output: &mut O, number: u32) -> Result<(), Failed>
         (Appends (O.written output.old) (O.written output.new) (generated_work number)) }
     ensures front { OnErr result
         (AppendsFront (O.written output.old) (O.written output.new) (generated_work number)) }
-    ensures cause { HasCause (O.faults output.old) (O.faults output.new) result }
+    ensures cause { MatchesCount (O.faults output.old) (O.faults output.new) result }
 {
     put_work(output, number)
 }

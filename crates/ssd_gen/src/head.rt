@@ -1,10 +1,10 @@
 // The head of the generated image.
 ghost use Rattle.std.specs.Prelude.{◌≡◌, OnOk};
-ghost use Rattle.ssd_geo.specs.GeneratedWork.{generated_head};
-ghost use Rattle.ssd_geo.specs.ImageHead.{head_bytes};
+ghost use Rattle.ssd_formats.specs.GeneratedWork.{generated_head};
+ghost use Rattle.ssd_formats.specs.ImageHead.{head_bytes};
 ghost use Rattle.ssd_geo.specs.Noise.{state_after};
 ghost use Rattle.ssd_gen.specs.HeadParts.{head_start, head_end, words_of_matrix};
-ghost use Rattle.ssd_gen.specs.Writes.{Writes};
+ghost use Rattle.ssd_io.specs.Writes.{Writes};
 
 use crate::matrix::put_matrix;
 use crate::put::put;

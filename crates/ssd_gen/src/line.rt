@@ -1,8 +1,8 @@
 // Lines of words.
 ghost use Rattle.std.specs.Prelude.{◌∷◌, map};
-ghost use Rattle.ssd_geo.specs.EntryText.{line_of};
+ghost use Rattle.ssd_formats.specs.EntryText.{line_of};
 ghost use Rattle.ssd_gen.specs.LineText.{further_text, word_text};
-ghost use Rattle.ssd_gen.specs.Writes.{Writes};
+ghost use Rattle.ssd_io.specs.Writes.{Writes};
 
 use crate::line_word::LineWord;
 use crate::put::{put, put_number};

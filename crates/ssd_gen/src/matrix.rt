@@ -1,12 +1,12 @@
 // The base matrix of the generated image.
 ghost use Rattle.std.specs.Prelude.{◌≡◌, ◌<◌, OnOk};
 ghost use Rattle.ssd_geo.specs.BaseMatrix.{diagonal_entry};
-ghost use Rattle.ssd_geo.specs.Fields.{bytes_of_signed};
-ghost use Rattle.ssd_geo.specs.GeneratedWork.{first_parity_entry, is_drawn};
+ghost use Rattle.ssd_formats.specs.Fields.{bytes_of_signed};
+ghost use Rattle.ssd_formats.specs.GeneratedWork.{first_parity_entry, is_drawn};
 ghost use Rattle.ssd_geo.specs.Noise.{noise_word, state_after};
 ghost use Rattle.ssd_gen.specs.HeadParts.{matrix_bytes, words_of_matrix};
 ghost use Rattle.ssd_gen.specs.RowWords.{drawn_at, entry_with, row_bytes, words_of_row};
-ghost use Rattle.ssd_gen.specs.Writes.{Writes};
+ghost use Rattle.ssd_io.specs.Writes.{Writes};
 
 use crate::draw::draw;
 use crate::put::put;

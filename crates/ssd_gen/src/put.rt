@@ -1,6 +1,6 @@
 // Bytes and numbers that are written to a sink.
 ghost use Rattle.std.specs.Prelude.{decimal};
-ghost use Rattle.ssd_gen.specs.Writes.{Writes};
+ghost use Rattle.ssd_io.specs.Writes.{Writes};
 
 use itoa::Buffer;
 use ssd_io::{Failed, Sink, write_all};

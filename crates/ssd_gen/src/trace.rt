@@ -1,9 +1,9 @@
 // The trace of the generated input.
 ghost use Rattle.std.specs.Prelude.{◌%◌, ◌∷◌, decimal};
-ghost use Rattle.ssd_geo.specs.EntryText.{line_of};
-ghost use Rattle.ssd_geo.specs.GeneratedWork.{age_words, generated_line_of, host_words};
+ghost use Rattle.ssd_formats.specs.EntryText.{line_of};
+ghost use Rattle.ssd_formats.specs.GeneratedWork.{age_words, generated_line_of, host_words};
 ghost use Rattle.ssd_gen.specs.TraceParts.{calls_text, trace_text};
-ghost use Rattle.ssd_gen.specs.Writes.{Writes};
+ghost use Rattle.ssd_io.specs.Writes.{Writes};
 
 use crate::draw::draw;
 use crate::line::put_line;

@@ -1,6 +1,6 @@
 // Calls that are counted, and those of them that fail.
 ghost use Rattle.std.specs.Prelude.{◌≡◌, ◌||◌, is_err};
-ghost use Rattle.ssd_geo.specs.Faults.{HasCause};
+ghost use Rattle.ssd_io.specs.FaultCounts.{MatchesCount};
 ghost use Rattle.ssd_io.specs.ListedCalls.{no_calls, is_next_listed, calls_after};
 
 use crate::Failed;
@@ -38,7 +38,7 @@ impl ListedCalls {
     pub fn count(&mut self, refused: bool) -> Result<(), Failed>
         ensures fails { is_err result ≡ (refused || is_next_listed self.old) }
         ensures after { self.new ≡ calls_after self.old (refused || is_next_listed self.old) }
-        ensures cause { HasCause self.old.faults self.new.faults result }
+        ensures cause { MatchesCount self.old.faults self.new.faults result }
     {
         let failed = refused || self.is_next_listed();
         self.done = self.done.saturating_add(1);

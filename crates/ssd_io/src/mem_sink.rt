@@ -1,7 +1,7 @@
 // A sink in memory with room for so many bytes, whose listed calls fail.
 ghost use Rattle.std.specs.Prelude.{◌≡◌, ◌-◌, ◌<◌, [], length, min, is_err, Some, IfOk};
 ghost use Rattle.std.specs.Io.KnownBytes.{WriteAppends};
-ghost use Rattle.ssd_geo.specs.Faults.{HasCause};
+ghost use Rattle.ssd_io.specs.FaultCounts.{MatchesCount};
 ghost use Rattle.ssd_io.specs.ListedCalls.{no_calls};
 ghost use Rattle.ssd_io.specs.Pieces.{TakesSome};
 ghost use Rattle.ssd_io.specs.MemSink.{is_next_refused, sink_after};
@@ -64,7 +64,7 @@ impl Sink for MemSink {
         requires { 0 < length piece.now }
         ensures bound { TakesSome result piece.now }
         ensures bytes { WriteAppends (Some self.old.written) (Some self.new.written) result piece.now }
-        ensures cause { HasCause self.old.calls.faults self.new.calls.faults result }
+        ensures cause { MatchesCount self.old.calls.faults self.new.calls.faults result }
 
         // Which calls fail, and how much the others take.
         ensures fails { is_err result ≡ is_next_refused self.old }

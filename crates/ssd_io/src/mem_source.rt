@@ -2,7 +2,7 @@
 ghost use Rattle.std.specs.Prelude.{◌≡◌, ◌++◌, length, take, drop, min, is_err, Some, IfOk};
 ghost use Rattle.std.specs.Io.{ReadsAtMost};
 ghost use Rattle.std.specs.Io.KnownBytes.{ReadConsumes};
-ghost use Rattle.ssd_geo.specs.Faults.{HasCause};
+ghost use Rattle.ssd_io.specs.FaultCounts.{MatchesCount};
 ghost use Rattle.ssd_io.specs.ListedCalls.{no_calls, is_next_listed};
 ghost use Rattle.ssd_io.specs.MemSource.{given_count, source_after};
 
@@ -47,7 +47,7 @@ impl Source for MemSource {
     fn read(&mut self, into: &mut [u8]) -> Result<usize, Failed>
         ensures bound { ReadsAtMost result into.new }
         ensures bytes { ReadConsumes (Some self.old.left) (Some self.new.left) result into.new }
-        ensures cause { HasCause self.old.calls.faults self.new.calls.faults result }
+        ensures cause { MatchesCount self.old.calls.faults self.new.calls.faults result }
 
         // Which calls fail, and how much the others give.
         ensures fails { is_err result ≡ is_next_listed self.old.calls }

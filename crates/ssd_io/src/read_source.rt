@@ -2,7 +2,8 @@
 ghost use Rattle.std.specs.Prelude.{◌≡◌, is_err, if◌then◌else◌};
 ghost use Rattle.std.specs.Io.{ReadsAtMost};
 ghost use Rattle.std.specs.Io.KnownBytes.{ReadConsumes};
-ghost use Rattle.ssd_geo.specs.Faults.{HasCause, count_after};
+ghost use Rattle.ssd_geo.specs.Faults.{count_after};
+ghost use Rattle.ssd_io.specs.FaultCounts.{MatchesCount};
 
 use crate::{Failed, Source};
 use std::io::Read;
@@ -37,7 +38,7 @@ impl<R: Read> Source for ReadSource<R> {
         ensures bound { ReadsAtMost result into.new }
         ensures bytes { ReadConsumes (R.remaining (reader_of self.old))
             (R.remaining (reader_of self.new)) result into.new }
-        ensures cause { HasCause (faults_read self.old) (faults_read self.new) result }
+        ensures cause { MatchesCount (faults_read self.old) (faults_read self.new) result }
 
         // The count rises by one at a failure, and only there.
         ensures counted { let before = faults_read self.old in
@@ -52,3 +53,6 @@ impl<R: Read> Source for ReadSource<R> {
         }
     }
 }
+
+#[cfg(test)]
+mod tests;

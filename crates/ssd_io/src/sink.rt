@@ -1,7 +1,7 @@
 // What takes bytes.
 ghost use Rattle.std.specs.Prelude.{◌≡◌, ℕ, ◌<◌, List, [], length, Option, OnOk, OnErr, Ok};
 ghost use Rattle.std.specs.Io.KnownBytes.{Appends, WriteAppends};
-ghost use Rattle.ssd_geo.specs.Faults.{HasCause};
+ghost use Rattle.ssd_io.specs.FaultCounts.{MatchesCount};
 ghost use Rattle.ssd_io.specs.Pieces.{TakesSome, AppendsFront};
 
 use crate::Failed;
@@ -20,14 +20,15 @@ pub trait Sink {
         requires { 0 < length piece.now }
         ensures bound { TakesSome result piece.now }
         ensures bytes { WriteAppends (written self.old) (written self.new) result piece.now }
-        ensures cause { HasCause (faults self.old) (faults self.new) result };
+        ensures cause { MatchesCount (faults self.old) (faults self.new) result };
 }
 
 /// Writes all the bytes, in as many calls as the sink takes.
+#[tactic(auto, using(crate::proofs::Appending::appends_more))]
 pub fn write_all<O: Sink>(out: &mut O, bytes: &[u8]) -> Result<(), Failed>
     ensures all { OnOk result (Appends (O.written out.old) (O.written out.new) bytes.now) }
     ensures front { OnErr result (AppendsFront (O.written out.old) (O.written out.new) bytes.now) }
-    ensures cause { HasCause (O.faults out.old) (O.faults out.new) result }
+    ensures cause { MatchesCount (O.faults out.old) (O.faults out.new) result }
     ensures nothing { bytes.now ≡ [] → (result ≡ Ok tt) × (out.new ≡ out.old) }
 {
     let mut at = 0;

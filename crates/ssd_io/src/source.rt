@@ -2,7 +2,7 @@
 ghost use Rattle.std.specs.Prelude.{ℕ, ◌<◌, List, length, Option};
 ghost use Rattle.std.specs.Io.{ReadsAtMost};
 ghost use Rattle.std.specs.Io.KnownBytes.{ReadConsumes};
-ghost use Rattle.ssd_geo.specs.Faults.{HasCause};
+ghost use Rattle.ssd_io.specs.FaultCounts.{MatchesCount};
 
 use crate::Failed;
 
@@ -20,5 +20,5 @@ pub trait Source {
         requires { 0 < length into.old }
         ensures bound { ReadsAtMost result into.new }
         ensures bytes { ReadConsumes (left self.old) (left self.new) result into.new }
-        ensures cause { HasCause (faults self.old) (faults self.new) result };
+        ensures cause { MatchesCount (faults self.old) (faults self.new) result };
 }

@@ -2,7 +2,7 @@
 ghost use Rattle.std.specs.Prelude.{◌≡◌, ◌++◌, length, take, drop, min, Ok, Some, IfOk, IsOk};
 ghost use Rattle.std.specs.Io.{ReadsAtMost};
 ghost use Rattle.std.specs.Io.KnownBytes.{ReadConsumes};
-ghost use Rattle.ssd_geo.specs.Faults.{HasCause};
+ghost use Rattle.ssd_io.specs.FaultCounts.{MatchesCount};
 
 use crate::unread::Unread;
 use crate::{Failed, Source};
@@ -41,7 +41,7 @@ impl Source for SureSource {
     fn read(&mut self, into: &mut [u8]) -> Result<usize, Failed>
         ensures bound { ReadsAtMost result into.new }
         ensures bytes { ReadConsumes (Some self.old) (Some self.new) result into.new }
-        ensures cause { HasCause 0 0 result }
+        ensures cause { MatchesCount 0 0 result }
 
         // It never fails, and gives as much as it can.
         ensures count { result ≡ Ok (min (length into.old) (length self.old)) }

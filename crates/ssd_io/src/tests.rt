@@ -4,11 +4,13 @@ use std::io::{BufWriter, ErrorKind, Read, Write};
 use std::process::Abort;
 use std::test::Fail;
 
-// A reader and a writer whose second calls fail. The writer takes one byte a call, and none at its third.
+/// A reader and a writer of which one call fails, counted from 1. The writer takes one byte a call, and none at its
+/// third.
 #[derive(Drop)]
-struct Faulty<I> {
-    inner: I,
-    calls: u8,
+pub struct Faulty<I> {
+    pub inner: I,
+    pub calls: u8,
+    pub fails: u8,
 }
 
 impl<I: Read> Read for Faulty<I> {
@@ -16,7 +18,7 @@ impl<I: Read> Read for Faulty<I> {
 
     fn read(&mut self, buf: &mut [u8]) -> io::Result<usize> {
         self.calls = self.calls.saturating_add(1);
-        if self.calls == 2 {
+        if self.calls == self.fails {
             return Err(io::Error::from(ErrorKind::BrokenPipe));
         }
         self.inner.read(buf)
@@ -28,7 +30,7 @@ impl<I: Write> Write for Faulty<I> {
 
     fn write(&mut self, buf: &[u8]) -> io::Result<usize> {
         self.calls = self.calls.saturating_add(1);
-        if self.calls == 2 {
+        if self.calls == self.fails {
             return Err(io::Error::from(ErrorKind::BrokenPipe));
         }
         let taken = if self.calls == 3 { 0 } else { buf.len().min(1) };
@@ -83,6 +85,7 @@ fn a_failed_read_loses_nothing(rt: HostRuntime) -> Result<(), Fail> {
     let mut faulty = ReadSource::new(Faulty {
         inner: text.as_slice(),
         calls: 0,
+        fails: 2,
     });
     compare_reads(&rt, &mut faulty, &second);
     Ok(())
@@ -111,6 +114,7 @@ fn a_failed_write_loses_nothing(rt: HostRuntime) -> Result<(), Fail> {
     let mut sink = WriteSink::new(Faulty {
         inner: &mut written,
         calls: 0,
+        fails: 2,
     });
     for want in [Ok(1), Err(Failed), Err(Failed), Ok(1)] {
         assert_eq!(rt; sink.write(b"ab"), want);
@@ -146,6 +150,7 @@ fn a_front_of_short_writes_stays(rt: HostRuntime) -> Result<(), Fail> {
     let mut sink = WriteSink::new(Faulty {
         inner: &mut written,
         calls: 0,
+        fails: 2,
     });
     assert_eq!(rt; write_all(&mut sink, b"cab"), Err(Failed));
     assert_eq!(rt; written.as_slice(), b"c".as_slice());

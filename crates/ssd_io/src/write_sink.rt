@@ -1,7 +1,8 @@
 // A sink over one of std's writers.
 ghost use Rattle.std.specs.Prelude.{◌≡◌, ◌<◌, length, is_err, if◌then◌else◌};
 ghost use Rattle.std.specs.Io.KnownBytes.{WriteAppends};
-ghost use Rattle.ssd_geo.specs.Faults.{HasCause, count_after};
+ghost use Rattle.ssd_geo.specs.Faults.{count_after};
+ghost use Rattle.ssd_io.specs.FaultCounts.{MatchesCount};
 ghost use Rattle.ssd_io.specs.Pieces.{TakesSome};
 
 use crate::{Failed, Sink};
@@ -38,7 +39,7 @@ impl<W: Write> Sink for WriteSink<W> {
         ensures bound { TakesSome result piece.now }
         ensures bytes { WriteAppends (W.contents (writer_of self.old))
             (W.contents (writer_of self.new)) result piece.now }
-        ensures cause { HasCause (faults_written self.old) (faults_written self.new) result }
+        ensures cause { MatchesCount (faults_written self.old) (faults_written self.new) result }
 
         // The count rises by one at a failure, and only there.
         ensures counted { let before = faults_written self.old in
@@ -53,3 +54,6 @@ impl<W: Write> Sink for WriteSink<W> {
         }
     }
 }
+
+#[cfg(test)]
+mod tests;

@@ -1,17 +1,17 @@
 -- The arguments of a verb, taken word by word.
 use Rattle.std.proofs.Common.{◌≡◌, refl, ap, sym, ℕ, ◌||◌, Bool, true, false, cond, List, [], ◌∷◌, Result, Ok, Err}
 use Rattle.std.specs.Prelude.{bytes_eq, codes}
-use Rattle.ssd_geo.specs.Fields.{◌>>=◌}
-use Rattle.ssd_geo.specs.ImageHead.{Sizes}
-use Rattle.ssd_geo.specs.InputFaults.{TraceFault}
-use Rattle.ssd_geo.specs.Numbers.{Text}
+use Rattle.ssd_formats.specs.Fields.{◌>>=◌}
+use Rattle.ssd_formats.specs.ImageHead.{Sizes}
+use Rattle.ssd_formats.specs.InputFaults.{TraceFault}
+use Rattle.ssd_formats.specs.Numbers.{Text}
 use Rattle.ssd_geo.specs.declared.trace.Verb.{Verb}
 use Rattle.ssd_geo.specs.declared.trace.Verb.TheVariants.{Age}
-use Rattle.ssd_geo.specs.TraceText.{age_of, page_call_of, verb_of, write_of, bounded_word, ranged_word, page_word, content_word}
+use Rattle.ssd_formats.specs.TraceText.{age_call_of, page_call_of, verb_of, write_call_of, bounded_word, ranged_word, page_word, content_word}
 use Rattle.trace_text.specs.Arguments.{age_with, other_verb_of, write_with}
 use Rattle.trace_text.specs.WordsLeft.{four_words, only_page_of, two_words}
 
-pub write_is : (sizes : Sizes) (words : List Text) → write_of sizes words ≡ two_words words >>= (λ two. write_with sizes two.0 two.1)
+pub write_is : (sizes : Sizes) (words : List Text) → write_call_of sizes words ≡ two_words words >>= (λ two. write_with sizes two.0 two.1)
 write_is sizes [] = refl
 write_is sizes (a ∷ []) = refl
 write_is sizes (a ∷ b ∷ []) = refl
@@ -31,7 +31,7 @@ age_steps (Ok x) (Ok y) (Ok z) (Ok m) = refl
 pub after : {A B F : Type 0} (first : Result A F) (value : A) (next : A → Result B F) → Ok value ≡ first → next value ≡ first >>= next
 after first value next e = ap (λ r. r >>= next) e
 
-pub age_is : (sizes : Sizes) (words : List Text) → age_of sizes words ≡ four_words words >>= age_with sizes
+pub age_is : (sizes : Sizes) (words : List Text) → age_call_of sizes words ≡ four_words words >>= age_with sizes
 age_is sizes [] = refl
 age_is sizes (a ∷ []) = refl
 age_is sizes (a ∷ b ∷ []) = refl
@@ -52,7 +52,7 @@ chosen_twice false true refresh x y z other = refl
 chosen_twice false false true x y z other = refl
 chosen_twice false false false x y z other = refl
 
-pub verb_is : (sizes : Sizes) (word : Text) (words : List Text) → verb_of sizes (word ∷ words) ≡ cond (bytes_eq word (codes "write")) (write_of sizes words) (other_verb_of sizes word words)
+pub verb_is : (sizes : Sizes) (word : Text) (words : List Text) → verb_of sizes (word ∷ words) ≡ cond (bytes_eq word (codes "write")) (write_call_of sizes words) (other_verb_of sizes word words)
 verb_is sizes word words =
-    ap (cond (bytes_eq word (codes "write")) (write_of sizes words))
+    ap (cond (bytes_eq word (codes "write")) (write_call_of sizes words))
     (sym (chosen_twice (bytes_eq word (codes "read")) (bytes_eq word (codes "trim")) (bytes_eq word (codes "refresh")) _ _ _ _))

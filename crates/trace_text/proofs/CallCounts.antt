@@ -3,7 +3,7 @@ use Rattle.std.proofs.Common.{◌≡◌, refl, sym, ap, ◌∙◌, ℕ, suc, ◌
 use Rattle.std.specs.Prelude.{count_by}
 use Rattle.std.specs.List.{list_all}
 use Rattle.std.proofs.lemmas.Grind.{common_steps}
-use Rattle.ssd_geo.specs.TraceText.{is_of_actor, is_read_call, is_read_verb, most_bytes_read, most_calls, numbered}
+use Rattle.ssd_formats.specs.TraceText.{is_of_actor, is_read_call, is_read_verb, most_bytes_read, most_calls, numbered_after}
 use Rattle.ssd_geo.specs.declared.trace.TraceCall.{TraceCall}
 use Rattle.ssd_geo.specs.declared.trace.Verb.{Verb}
 use Rattle.trace_text.specs.CallSteps.{are_few, with_call}
@@ -17,7 +17,7 @@ count_more p (first ∷ calls) call = let rest = count_more p calls call in grin
 pub few_with_call : (bytes : ℕ) (calls : List TraceCall) (actor : ℕ) (verb : Verb) (reads : ℕ) → reads ≡ count_by is_read_call calls + cond (is_read_verb verb) 1 0
     → are_few bytes (with_call calls actor verb) ≡ (nat_le (length calls + 1) most_calls && nat_le (reads * bytes) most_bytes_read)
 few_with_call bytes calls actor verb reads is =
-    let call = numbered calls (actor, verb) in
+    let call = numbered_after calls (actor, verb) in
     let size : length (calls ++ call ∷ []) ≡ length calls + 1 = length-append calls (call ∷ []) in
     let counted : count_by is_read_call (calls ++ call ∷ []) ≡ reads = count_more is_read_call calls call ∙ sym is in
     ap (λ n. nat_le n most_calls && nat_le (count_by is_read_call (calls ++ call ∷ []) * bytes) most_bytes_read) size
@@ -27,7 +27,7 @@ few_with_call bytes calls actor verb reads is =
 pub counts_more : (counts : List ℕ) (calls : List TraceCall) (actor : ℕ) (verb : Verb) → length counts ≡ 32 → actor < 32 → ((k : ℕ) → k < 32 → get_or counts k 0 ≡ count_by (is_of_actor k) calls)
     → (k : ℕ) → k < 32 → get_or (set counts actor (get_or counts actor 0 + 1)) k 0 ≡ count_by (is_of_actor k) (with_call calls actor verb)
 counts_more counts calls actor verb size inside kept k low =
-    let more = count_more (is_of_actor k) calls (numbered calls (actor, verb)) in
+    let more = count_more (is_of_actor k) calls (numbered_after calls (actor, verb)) in
     let one = kept k low in
     let own = kept actor inside in
     grind (arith, common_steps)

@@ -3,9 +3,9 @@ use Rattle.std.proofs.Common.{◌≡◌, refl, sym, ap, ◌∙◌, ℕ, suc, ◌
 use Rattle.std.specs.List.{slice_split, onto_first, position, position_or_len, prefix_len}
 use Rattle.std.proofs.lemmas.List.Splits.{length-slice_split, slice_split-cons_no, slice_split_first}
 use Rattle.std.proofs.lemmas.Grind.{common_steps}
-use Rattle.ssd_geo.specs.InputFaults.{form}
-use Rattle.ssd_geo.specs.Lines.{is_space, words_in}
-use Rattle.ssd_geo.specs.Numbers.{Text}
+use Rattle.ssd_formats.specs.InputFaults.{form}
+use Rattle.ssd_formats.specs.Lines.{is_space, words_in}
+use Rattle.ssd_formats.specs.Numbers.{Text}
 use Rattle.trace_text.specs.WordsLeft.{only_word}
 
 place_of : (b : Bool) (m n : ℕ) → cond b (Some m) None ≡ Some n → (b ≡ true) × (m ≡ n)

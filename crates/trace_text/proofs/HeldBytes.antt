@@ -6,7 +6,7 @@ use Rattle.std.proofs.Math.Seq.{take-append-add, take-append_seam}
 use Rattle.std.proofs.lemmas.List.{drop-append-le, drop-drop, drop-take, take-append-le}
 use Rattle.std.proofs.lemmas.List.Edits.{take-paste}
 use borrow.Rule.Slice.PartMut.{put_mid, post_of}
-use Rattle.trace_text.specs.BytesAhead.{IsTold, IsOver, KeepsAhead, told_bytes, bytes_ahead, Fetches}
+use Rattle.trace_text.specs.BytesAhead.{IsOver, KeepsAhead, bytes_ahead, Fetches}
 
 -- the bytes between two places, taken from either end
 between : (bytes : List ℕ) (from to : ℕ) → from ≤ to → take (to - from) (drop from bytes) ≡ drop from (take to bytes)

@@ -3,8 +3,8 @@ use Rattle.std.proofs.Common.{◌≡◌, refl, sym, ap, ◌∙◌, ℕ, zero, su
 use Rattle.std.specs.Prelude.{option_and_then, option_map}
 use Rattle.std.proofs.Math.ListN.{drop_of_length-le}
 use Rattle.std.proofs.lemmas.Grind.{common_steps}
-use Rattle.ssd_geo.specs.Numbers.{Text, hex_digit, bytes_of_hex}
-use Rattle.ssd_geo.specs.TraceText.{listed_content}
+use Rattle.ssd_formats.specs.Numbers.{Text, hex_digit, bytes_of_hex}
+use Rattle.ssd_formats.specs.TraceText.{listed_content}
 use Rattle.ssd_geo.specs.declared.trace.Content.{Content}
 use Rattle.ssd_geo.specs.declared.trace.Content.TheVariants.{Listed}
 use Rattle.trace_text.proofs.Results.{mapped_from, then_from}

@@ -6,8 +6,8 @@ use Rattle.std.proofs.Math.ListN.{drop_of_length-le}
 use Rattle.std.proofs.lemmas.Grind.{common_steps}
 use Rattle.std.proofs.lemmas.List.Elements.{All-head, All-tail}
 use Rattle.std.proofs.lemmas.List.Splits.{length-slice_split, slice_split_at, slice_split_none, slice_split-cons_no}
-use Rattle.ssd_geo.specs.Lines.{Line, is_line_feed, lines_in, lines_of_parts}
-use Rattle.ssd_geo.specs.TraceText.{most_line_bytes}
+use Rattle.ssd_formats.specs.Lines.{Line, is_line_feed, lines_in, lines_of_parts}
+use Rattle.ssd_formats.specs.TraceText.{most_line_bytes}
 use Rattle.trace_text.specs.BytesAhead.{HasNoFeed}
 use Rattle.trace_text.specs.ReadLines.{BeginsLong}
 

@@ -3,13 +3,14 @@ use Rattle.std.proofs.Common.{◌≡◌, refl, ◌+◌, ◌*◌, ◌-◌, ◌^�
 use Rattle.std.specs.Prelude.{All, ok_or, option_and_then, option_map, codes, bytes_eq, count_by}
 use Rattle.std.proofs.lemmas.Grind.{common_steps}
 use Rattle.std.proofs.lemmas.List.Elements.{All-cons, All-nil}
-use Rattle.ssd_geo.specs.Fields.{◌>>=◌, is_within, passing}
-use Rattle.ssd_geo.specs.ImageHead.{Sizes}
-use Rattle.ssd_geo.specs.InputFaults.{TraceFault}
-use Rattle.ssd_geo.specs.InputFaults as faults
-use Rattle.ssd_geo.specs.Lines.{Line, lines_in, is_skipped}
-use Rattle.ssd_geo.specs.Numbers.{Text, bytes_of_hex, hex_digit, number_below, number_of_text}
-use Rattle.ssd_geo.specs.TraceText.{pages_of_drive, number_word, ranged_word, bounded_word, page_word, listed_content, words_content, content_of_text, content_word, write_of, page_call_of, collect_of, drain_of, age_of, verb_of, actor_word, call_of_words, is_of_actor, numbered, are_few_calls, is_read_call, most_calls, most_bytes_read, is_short_line, line_words, actors_of_words, first_of_line, calls_with, at_line, calls_of_lines, trace_of_lines, read_trace}
+use Rattle.ssd_formats.specs.Fields.{◌>>=◌, passing}
+use Rattle.ssd_geo.specs.Limits.{is_within}
+use Rattle.ssd_formats.specs.ImageHead.{Sizes}
+use Rattle.ssd_formats.specs.InputFaults.{TraceFault}
+use Rattle.ssd_formats.specs.InputFaults as faults
+use Rattle.ssd_formats.specs.Lines.{Line, lines_in, is_skipped}
+use Rattle.ssd_formats.specs.Numbers.{Text, bytes_of_hex, hex_digit, number_below, number_of_text}
+use Rattle.ssd_formats.specs.TraceText.{pages_of_drive, number_word, ranged_word, bounded_word, page_word, listed_content, words_content, content_of_text, content_word, write_call_of, page_call_of, collect_call_of, drain_call_of, age_call_of, verb_of, actor_word, call_of_words, is_of_actor, numbered_after, are_few_calls, is_read_call, most_calls, most_bytes_read, is_short_line, line_words, actors_of_words, first_of_line, calls_with, at_line, calls_of_lines, trace_of_lines, read_trace}
 use Rattle.ssd_geo.specs.declared.trace.Content.{Content}
 use Rattle.ssd_geo.specs.declared.trace.Content.TheVariants.{Listed, Words}
 use Rattle.ssd_geo.specs.declared.trace.Trace.{Trace}
@@ -96,7 +97,7 @@ page_call_in_range verb sizes (page ∷ []) v may e =
     subst (IsVerbOf sizes) is (may x.0 (bounded (pages_of_drive sizes) page x.0 x.1))
 page_call_in_range verb sizes (page ∷ next ∷ more) v may e = absurd (cc)
 
-write_in_range : (sizes : Sizes) (words : List Text) (v : Verb) → write_of sizes words ≡ Ok v → IsVerbOf sizes v
+write_in_range : (sizes : Sizes) (words : List Text) (v : Verb) → write_call_of sizes words ≡ Ok v → IsVerbOf sizes v
 write_in_range sizes [] v e = absurd (cc)
 write_in_range sizes (page ∷ []) v e = absurd (cc)
 write_in_range sizes (page ∷ content ∷ []) v e =
@@ -106,7 +107,7 @@ write_in_range sizes (page ∷ content ∷ []) v e =
     subst (IsVerbOf sizes) is (bounded (pages_of_drive sizes) page x.0 x.1, content_in_range sizes.bytes content w.0 (some_from (content_of_text sizes.bytes content) faults.bytes w.0 w.1))
 write_in_range sizes (page ∷ content ∷ next ∷ more) v e = absurd (cc)
 
-collect_in_range : (sizes : Sizes) (words : List Text) (v : Verb) → collect_of sizes words ≡ Ok v → IsVerbOf sizes v
+collect_in_range : (sizes : Sizes) (words : List Text) (v : Verb) → collect_call_of sizes words ≡ Ok v → IsVerbOf sizes v
 collect_in_range sizes [] v e = absurd (cc)
 collect_in_range sizes (channel ∷ []) v e =
     let x = came_from (bounded_word sizes.channels channel) (λ n. Ok (Collect n)) v e in
@@ -114,7 +115,7 @@ collect_in_range sizes (channel ∷ []) v e =
     subst (IsVerbOf sizes) is (bounded sizes.channels channel x.0 x.1)
 collect_in_range sizes (channel ∷ next ∷ more) v e = absurd (cc)
 
-drain_in_range : (sizes : Sizes) (words : List Text) (v : Verb) → drain_of words ≡ Ok v → IsVerbOf sizes v
+drain_in_range : (sizes : Sizes) (words : List Text) (v : Verb) → drain_call_of words ≡ Ok v → IsVerbOf sizes v
 drain_in_range sizes [] v e = absurd (cc)
 drain_in_range sizes (hints ∷ []) v e =
     let x = came_from (ranged_word 1 16 hints) (λ n. Ok (Drain n)) v e in
@@ -122,7 +123,7 @@ drain_in_range sizes (hints ∷ []) v e =
     subst (IsVerbOf sizes) is (ranged 1 16 hints x.0 x.1)
 drain_in_range sizes (hints ∷ next ∷ more) v e = absurd (cc)
 
-age_in_range : (sizes : Sizes) (words : List Text) (v : Verb) → age_of sizes words ≡ Ok v → IsVerbOf sizes v
+age_in_range : (sizes : Sizes) (words : List Text) (v : Verb) → age_call_of sizes words ≡ Ok v → IsVerbOf sizes v
 age_in_range sizes [] v e = absurd (cc)
 age_in_range sizes (a ∷ []) v e = absurd (cc)
 age_in_range sizes (a ∷ b ∷ []) v e = absurd (cc)
@@ -160,14 +161,14 @@ few_and : (m n : ℕ) (b : Bool) → (nat_le m n && b) ≡ true → m ≤ n
 few_and m n true e = grind (arith, common_steps)
 few_and m n false e = grind (arith, common_steps)
 
-numbered_after : (sizes : Sizes) (actors : ℕ) (words : List Text) (before : List TraceCall) (call : ℕ × Verb) → call_of_words sizes actors words ≡ Ok call → IsNumberedAfter sizes actors before (numbered before call)
-numbered_after sizes actors [] before call e = absurd (cc)
-numbered_after sizes actors (first ∷ further) before call e =
+call_is_numbered : (sizes : Sizes) (actors : ℕ) (words : List Text) (before : List TraceCall) (call : ℕ × Verb) → call_of_words sizes actors words ≡ Ok call → IsNumberedAfter sizes actors before (numbered_after before call)
+call_is_numbered sizes actors [] before call e = absurd (cc)
+call_is_numbered sizes actors (first ∷ further) before call e =
     let actor = came_from (actor_word actors first) (λ a. verb_of sizes further >>= (λ v. Ok (a, v))) call e in
     let verb = came_from (verb_of sizes further) (λ v. Ok (actor.0, v)) call actor.2 in
     let pair : ℕ × Verb = (actor.0, verb.0) in
     let is : pair ≡ call = cc (verb.2) in
-    let P : ℕ × Verb → Type 0 = λ c. IsNumberedAfter sizes actors before (numbered before c) in
+    let P : ℕ × Verb → Type 0 = λ c. IsNumberedAfter sizes actors before (numbered_after before c) in
     subst P is (record {
       actor = below_bound actor.0 actors (tested (λ m. nat_lt m actors) faults.actor first actor.0 actor.1);
       number = refl;
@@ -176,12 +177,12 @@ numbered_after sizes actors (first ∷ further) before call e =
 
 pub calls_with_one : (sizes : Sizes) (actors : ℕ) (before : List TraceCall) (line : Line) (calls : List TraceCall) → calls_with sizes actors before line ≡ Ok calls → AreCalls sizes actors before → AreCalls sizes actors calls
 calls_with_one sizes actors before line calls e good =
-    let words = came_from (line_words line) (λ words. call_of_words sizes actors words >>= (λ call. ok_or (passing (are_few_calls sizes) (before ++ numbered before call ∷ [])) faults.long)) calls e in
-    let call = came_from (call_of_words sizes actors words.0) (λ call. ok_or (passing (are_few_calls sizes) (before ++ numbered before call ∷ [])) faults.long) calls words.2 in
-    let both = passed_by (are_few_calls sizes (before ++ numbered before call.0 ∷ [])) (before ++ numbered before call.0 ∷ []) calls (some_from (passing (are_few_calls sizes) (before ++ numbered before call.0 ∷ [])) faults.long calls call.2) in
+    let words = came_from (line_words line) (λ words. call_of_words sizes actors words >>= (λ call. ok_or (passing (are_few_calls sizes) (before ++ numbered_after before call ∷ [])) faults.long)) calls e in
+    let call = came_from (call_of_words sizes actors words.0) (λ call. ok_or (passing (are_few_calls sizes) (before ++ numbered_after before call ∷ [])) faults.long) calls words.2 in
+    let both = passed_by (are_few_calls sizes (before ++ numbered_after before call.0 ∷ [])) (before ++ numbered_after before call.0 ∷ []) calls (some_from (passing (are_few_calls sizes) (before ++ numbered_after before call.0 ∷ [])) faults.long calls call.2) in
     subst (AreCalls sizes actors) both.1 (record {
-      few = few_and (length (before ++ numbered before call.0 ∷ [])) most_calls _ both.0;
-      all = one_more sizes actors [] before (numbered before call.0) good.all (numbered_after sizes actors words.0 before call.0 call.1);
+      few = few_and (length (before ++ numbered_after before call.0 ∷ [])) most_calls _ both.0;
+      all = one_more sizes actors [] before (numbered_after before call.0) good.all (call_is_numbered sizes actors words.0 before call.0 call.1);
     })
 
 at_line_ok : {A : Type 0} (number : ℕ) (read : Result A TraceFault) (value : A) → at_line number read ≡ Ok value → read ≡ Ok value

@@ -1,8 +1,9 @@
 -- What is found of the lines ahead, where bytes were read on.
 use Rattle.std.proofs.Common.{◌≡◌, refl, sym, ap, ◌∙◌, subst, ℕ, ◌+◌, ◌<◌, ◌≤◌, List, [], ◌∷◌, ◌++◌, length, take, drop, Option, Some, None, arith, rules}
 use Rattle.std.specs.Str.Lines.{strip_carriage_return}
-use Rattle.ssd_geo.specs.Lines.{Line, lines_in}
-use Rattle.trace_text.specs.BytesAhead.{HasNoFeed, IsFound, IsOver, IsTold, KeepsAhead, bytes_ahead, lines_ahead, told_bytes}
+use Rattle.ssd_formats.specs.Lines.{Line, lines_in}
+use Rattle.ssd_io.specs.Told.{IsTold, told_bytes}
+use Rattle.trace_text.specs.BytesAhead.{HasNoFeed, IsFound, IsOver, KeepsAhead, bytes_ahead, lines_ahead}
 use Rattle.trace_text.specs.ReadLines.{BeginsLong}
 use Rattle.trace_text.specs.declared.window.Found.TheVariants.{Feed, End, Long}
 use Rattle.trace_text.proofs.LineSteps.{last_is_taken, line_is_long, line_is_taken, none_is_left}

@@ -1,7 +1,8 @@
 -- What it says of the steps that a value or a fault comes of them.
 use Rattle.std.proofs.Common.{◌≡◌, refl, ◌<◌, ◌≤◌, ℕ, ◌&&◌, Bool, true, false, cond, Option, Some, None, Result, Ok, Err, nat_lt}
 use Rattle.std.specs.Prelude.{ok_or, option_and_then, option_map}
-use Rattle.ssd_geo.specs.Fields.{◌>>=◌, is_within, passing}
+use Rattle.ssd_formats.specs.Fields.{◌>>=◌, passing}
+use Rattle.ssd_geo.specs.Limits.{is_within}
 use Rattle.std.proofs.lemmas.Grind.{common_steps}
 use Rattle.std.proofs.Common.{arith}
 

@@ -1,7 +1,7 @@
 -- What does a call answer that reads a part of a line? It answers what the definition of that part reads from it. Only
 -- want of memory may come in its place.
 use Rattle.std.specs.Prelude.{◌≡◌, Result, Ok, Err}
-use Rattle.ssd_geo.specs.InputFaults.{TraceFault, first, long, form, number, actor, verb, out_of_range, bytes}
+use Rattle.ssd_formats.specs.InputFaults.{TraceFault, first, long, form, number, actor, verb, out_of_range, bytes}
 use Rattle.trace_text.specs.declared.fault.LineStop.{LineStop}
 use Rattle.trace_text.specs.declared.fault.LineStop.TheVariants.{Fault, Memory}
 use Rattle.trace_text.specs.declared.fault.TraceFault.{TraceFault as TraceFaultAnswer}

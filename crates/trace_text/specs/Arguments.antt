@@ -1,10 +1,10 @@
 -- What do the arguments of a verb give, once their number was tested?
 use Rattle.std.specs.Prelude.{ℕ, ◌||◌, if◌then◌else◌, List, bytes_eq, codes, Result, Ok, Err}
-use Rattle.ssd_geo.specs.Fields.{◌>>=◌}
-use Rattle.ssd_geo.specs.ImageHead.{Sizes}
-use Rattle.ssd_geo.specs.InputFaults.{TraceFault, verb}
-use Rattle.ssd_geo.specs.Numbers.{Text}
-use Rattle.ssd_geo.specs.TraceText.{age_of, bounded_word, collect_of, content_word, drain_of, page_call_of, page_word, ranged_word}
+use Rattle.ssd_formats.specs.Fields.{◌>>=◌}
+use Rattle.ssd_formats.specs.ImageHead.{Sizes}
+use Rattle.ssd_formats.specs.InputFaults.{TraceFault, verb}
+use Rattle.ssd_formats.specs.Numbers.{Text}
+use Rattle.ssd_formats.specs.TraceText.{age_call_of, bounded_word, collect_call_of, content_word, drain_call_of, page_call_of, page_word, ranged_word}
 use Rattle.ssd_geo.specs.declared.trace.Verb.{Verb}
 use Rattle.ssd_geo.specs.declared.trace.Verb.TheVariants.{Age, Read, Refresh, Trim, Write}
 
@@ -46,7 +46,7 @@ page_verb_of sizes word arguments =
 abbrev pub other_verb_of : Sizes → Text → List Text → Result Verb TraceFault
 other_verb_of sizes word arguments =
     if bytes_eq word (codes "read") || bytes_eq word (codes "trim") || bytes_eq word (codes "refresh") then page_verb_of sizes word arguments
-    else if bytes_eq word (codes "collect") then collect_of sizes arguments
-    else if bytes_eq word (codes "drain") then drain_of arguments
-    else if bytes_eq word (codes "age") then age_of sizes arguments
+    else if bytes_eq word (codes "collect") then collect_call_of sizes arguments
+    else if bytes_eq word (codes "drain") then drain_call_of arguments
+    else if bytes_eq word (codes "age") then age_call_of sizes arguments
     else Err verb

@@ -1,19 +1,10 @@
 -- Which bytes are ahead, and which lines? Those that are held, and then those that the source has left, where it tells them.
-use Rattle.std.specs.Prelude.{◌≡◌, ℕ, ◌+◌, ◌<◌, ◌≤◌, false, List, [], ◌∷◌, ◌++◌, length, take, slice_index, All, Option, Some, None}
-use Rattle.ssd_geo.specs.Lines.{Line, is_line_feed, lines_in}
-use Rattle.ssd_geo.specs.TraceText.{most_line_bytes}
+use Rattle.std.specs.Prelude.{◌≡◌, ℕ, ◌+◌, ◌<◌, ◌≤◌, false, List, [], ◌∷◌, ◌++◌, length, take, slice_index, All, Option}
+use Rattle.ssd_formats.specs.Lines.{Line, is_line_feed, lines_in}
+use Rattle.ssd_formats.specs.TraceText.{most_line_bytes}
+use Rattle.ssd_io.specs.Told.{IsTold, told_bytes}
 use Rattle.trace_text.specs.declared.window.Found.{Found}
 use Rattle.trace_text.specs.declared.window.Found.TheVariants.{Feed, End, Long}
-
--- the source tells the bytes that it has left
-abbrev pub IsTold : Option (List ℕ) → Type 0
-IsTold None = ⊥
-IsTold (Some bytes) = Unit {0}
-
--- the bytes left, where they are told
-abbrev pub told_bytes : Option (List ℕ) → List ℕ
-told_bytes None = []
-told_bytes (Some bytes) = bytes
 
 -- the bytes ahead, and the lines
 abbrev pub bytes_ahead : List ℕ → Option (List ℕ) → List ℕ

@@ -1,8 +1,8 @@
 -- What does a call add to those before it? It is numbered after them, or there are too many then.
 use Rattle.std.specs.Prelude.{◌≡◌, ℕ, ◌+◌, ◌*◌, if◌then◌else◌, nat_le, Bool, true, false, ◌&&◌, List, [], ◌∷◌, ◌++◌, length, count_by, Result, Ok, Err}
-use Rattle.ssd_geo.specs.ImageHead.{Sizes}
-use Rattle.ssd_geo.specs.InputFaults.{long}
-use Rattle.ssd_geo.specs.TraceText.{is_read_call, is_read_verb, most_bytes_read, most_calls, numbered}
+use Rattle.ssd_formats.specs.ImageHead.{Sizes}
+use Rattle.ssd_formats.specs.InputFaults.{long}
+use Rattle.ssd_formats.specs.TraceText.{is_read_call, is_read_verb, most_bytes_read, most_calls, numbered_after}
 use Rattle.ssd_geo.specs.declared.trace.TraceCall.{TraceCall}
 use Rattle.ssd_geo.specs.declared.trace.Verb.{Verb}
 use Rattle.trace_text.specs.Answers.{named_fault}
@@ -20,7 +20,7 @@ has_room_for bytes calls verb =
 
 -- the calls with one more
 abbrev pub with_call : List TraceCall → ℕ → Verb → List TraceCall
-with_call before actor verb = before ++ numbered before (actor, verb) ∷ []
+with_call before actor verb = before ++ numbered_after before (actor, verb) ∷ []
 
 -- The call was added, and there are few enough; or there would be too many. Want of memory may come in place of the first.
 abbrev pub Adds : Result (Unit {0}) LineStop → ℕ → List TraceCall → List TraceCall → ℕ → Verb → Type 0

@@ -1,13 +1,13 @@
 -- Which line is due next? The first one that isn't skipped, where none before it is too long, itself included.
 use Rattle.std.specs.Prelude.{◌≡◌, ℕ, ◌+◌, ◌^◌, ◌<◌, ◌≤◌, Bool, true, false, not, if◌then◌else◌, List, [], ◌∷◌, Option, Some, None, Result, Ok, Err}
-use Rattle.ssd_geo.specs.Faults.{NeverFell, Rose}
-use Rattle.ssd_geo.specs.InputFaults.{TraceFault, long}
-use Rattle.ssd_geo.specs.Lines.{Line, is_skipped}
-use Rattle.ssd_geo.specs.TraceText.{is_short_line}
+use Rattle.ssd_formats.specs.InputFaults.{TraceFault, long}
+use Rattle.ssd_formats.specs.Lines.{Line, is_skipped}
+use Rattle.ssd_formats.specs.TraceText.{is_short_line}
+use Rattle.ssd_io.specs.Told.{IsTold}
 use Rattle.image_file.specs.declared.stop.ReadStop.{ReadStop}
 use Rattle.image_file.specs.declared.stop.ReadStop.TheVariants.{Fault, ReadFault, DieFailed, Memory}
 use Rattle.trace_text.specs.Answers.{named_fault}
-use Rattle.trace_text.specs.BytesAhead.{IsOver, IsTold, lines_ahead}
+use Rattle.trace_text.specs.BytesAhead.{IsOver, lines_ahead}
 use Rattle.trace_text.specs.ReadLines.{IsCounted, line_of, pending}
 use Rattle.trace_text.specs.declared.fault.TraceFault.{TraceFault as TraceFaultAnswer}
 use Rattle.trace_text.specs.declared.fault.TraceFault.TheVariants.{Long}
@@ -72,19 +72,3 @@ pub record ReadsShort (result : Result Bool (ReadStop TraceFaultAnswer)) (before
 pub record FindsDue (result : Result Bool (ReadStop TraceFaultAnswer)) (before after : LineReader) (left_before left_after : Option (List ℕ)) : Type 0 where
   pub told : IsTold left_before → GivesLine result after left_after (due_line (before.number + 1) before.taken (lines_ahead (pending before) left_before))
   pub on : GoesOn result before after
-
--- a failed read is answered only where the count of faults rose, and a failed die never
-abbrev pub IsCaused : ℕ → ℕ → ReadStop TraceFaultAnswer → Type 0
-IsCaused before now (Fault at fault) = Unit {0}
-IsCaused before now ReadFault = Rose before now
-IsCaused before now (DieFailed die) = ⊥
-IsCaused before now Memory = Unit {0}
-
-abbrev pub AnswerIsCaused : {X : Type 0} → ℕ → ℕ → Result X (ReadStop TraceFaultAnswer) → Type 0
-AnswerIsCaused before now (Ok value) = Unit {0}
-AnswerIsCaused before now (Err stop) = IsCaused before now stop
-
--- the causes of an answer: the count didn't fall
-pub record StopHasCause {X : Type 0} (before now : ℕ) (result : Result X (ReadStop TraceFaultAnswer)) : Type 0 where
-  pub never_fell : NeverFell before now
-  pub cause : AnswerIsCaused before now result

@@ -1,8 +1,9 @@
 -- What does taking a line do? It takes the first of the lines ahead, or finds that there is none, or that it is too long.
 use Rattle.std.specs.Prelude.{◌≡◌, ℕ, ◌+◌, ◌<◌, ◌≤◌, List, [], ◌∷◌, length, take, drop, Option}
-use Rattle.ssd_geo.specs.Lines.{Line}
-use Rattle.ssd_geo.specs.TraceText.{most_line_bytes}
-use Rattle.trace_text.specs.BytesAhead.{IsOver, IsTold, lines_ahead}
+use Rattle.ssd_formats.specs.Lines.{Line}
+use Rattle.ssd_formats.specs.TraceText.{most_line_bytes}
+use Rattle.ssd_io.specs.Told.{IsTold}
+use Rattle.trace_text.specs.BytesAhead.{IsOver, lines_ahead}
 use Rattle.trace_text.specs.Windows.{held}
 use Rattle.trace_text.specs.declared.line_reader.Ahead.{Ahead}
 use Rattle.trace_text.specs.declared.line_reader.Ahead.TheVariants.{End, Line as LineAhead, Long}

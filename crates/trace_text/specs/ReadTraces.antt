@@ -1,16 +1,17 @@
 -- What does reading a trace answer, where the source tells the bytes that it has left? It answers what the definition of
 -- traces reads from them. Only a failed read of the source and want of memory may come in its place.
 use Rattle.std.specs.Prelude.{◌≡◌, ℕ, ◌+◌, List, [], Option, Some, Result, Ok, Err}
-use Rattle.ssd_geo.specs.Fields.{◌>>=◌}
-use Rattle.ssd_geo.specs.ImageHead.{Sizes}
-use Rattle.ssd_geo.specs.InputFaults.{TraceFault, first}
-use Rattle.ssd_geo.specs.Lines.{Line}
-use Rattle.ssd_geo.specs.TraceText.{at_line, calls_of_lines, first_of_line, read_trace}
+use Rattle.ssd_formats.specs.Fields.{◌>>=◌}
+use Rattle.ssd_formats.specs.ImageHead.{Sizes}
+use Rattle.ssd_formats.specs.InputFaults.{TraceFault, first}
+use Rattle.ssd_formats.specs.Lines.{Line}
+use Rattle.ssd_formats.specs.TraceText.{at_line, calls_of_lines, first_of_line, read_trace}
 use Rattle.ssd_geo.specs.declared.trace.Trace.{Trace}
 use Rattle.ssd_geo.specs.declared.trace.TraceCall.{TraceCall}
+use Rattle.ssd_io.specs.Told.{IsTold, told_bytes}
 use Rattle.image_file.specs.declared.stop.ReadStop.{ReadStop}
 use Rattle.image_file.specs.declared.stop.ReadStop.TheVariants.{Fault as FaultAt, Memory as MemoryAt}
-use Rattle.trace_text.specs.BytesAhead.{IsOver, IsTold, lines_ahead, told_bytes}
+use Rattle.trace_text.specs.BytesAhead.{IsOver, lines_ahead}
 use Rattle.trace_text.specs.DueLines.{NextLine, due, ended, due_line, StopsReading}
 use Rattle.trace_text.specs.ReadLines.{pending}
 use Rattle.trace_text.specs.declared.fault.LineStop.{LineStop}

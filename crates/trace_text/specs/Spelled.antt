@@ -1,10 +1,10 @@
 -- Which numbers of a line fit 64 bits, and which pass a test? A number of any length may be well spelled: its spelling is
 -- tested first, and then its value.
 use Rattle.std.specs.Prelude.{ℕ, ◌^◌, Bool, nat_lt, ok_or, Option, Result, Ok, Err}
-use Rattle.ssd_geo.specs.Fields.{◌>>=◌, is_below, passing}
-use Rattle.ssd_geo.specs.InputFaults.{TraceFault}
-use Rattle.ssd_geo.specs.Numbers.{Text}
-use Rattle.ssd_geo.specs.TraceText.{number_word}
+use Rattle.ssd_formats.specs.Fields.{◌>>=◌, is_below, passing}
+use Rattle.ssd_formats.specs.InputFaults.{TraceFault}
+use Rattle.ssd_formats.specs.Numbers.{Text}
+use Rattle.ssd_formats.specs.TraceText.{number_word}
 
 -- a number where it fits 64 bits
 abbrev pub fitting : ℕ → Option ℕ

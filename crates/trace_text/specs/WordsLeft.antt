@@ -2,12 +2,12 @@
 -- space; else none.
 use Rattle.std.specs.Borrow.{Bor}
 use Rattle.std.specs.Prelude.{ℕ, List, [], ◌∷◌, Option, Some, None, option_copied, Result, Ok, Err}
-use Rattle.ssd_geo.specs.Fields.{◌>>=◌}
-use Rattle.ssd_geo.specs.ImageHead.{Sizes}
-use Rattle.ssd_geo.specs.InputFaults.{TraceFault, form}
-use Rattle.ssd_geo.specs.Lines.{words_in}
-use Rattle.ssd_geo.specs.Numbers.{Text}
-use Rattle.ssd_geo.specs.TraceText.{page_word}
+use Rattle.ssd_formats.specs.Fields.{◌>>=◌}
+use Rattle.ssd_formats.specs.ImageHead.{Sizes}
+use Rattle.ssd_formats.specs.InputFaults.{TraceFault, form}
+use Rattle.ssd_formats.specs.Lines.{words_in}
+use Rattle.ssd_formats.specs.Numbers.{Text}
+use Rattle.ssd_formats.specs.TraceText.{page_word}
 
 abbrev pub words_left : Option Text → List Text
 words_left None = []

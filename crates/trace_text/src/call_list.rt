@@ -1,6 +1,6 @@
 // The calls so far, and what their limits are tested by.
 ghost use Rattle.std.specs.Prelude.{◌≡◌, ◌+◌, ◌<◌, if◌then◌else◌, [], OnOk, count_by, length};
-ghost use Rattle.ssd_geo.specs.TraceText.{is_read_call, is_read_verb, most_calls};
+ghost use Rattle.ssd_formats.specs.TraceText.{is_read_call, is_read_verb, most_calls};
 ghost use Rattle.trace_text.specs.CallSteps.{Adds, has_room_for, with_call};
 
 use crate::fault::{LineStop, TraceFault};
@@ -24,7 +24,7 @@ pub struct CallList {
 
 impl Model for CallList {
     ghost use Rattle.std.specs.Prelude.{◌≡◌, ℕ, ◌<◌, ◌≤◌, List, length, slice_index, count_by};
-    ghost use Rattle.ssd_geo.specs.TraceText.{is_of_actor, is_read_call, most_calls};
+    ghost use Rattle.ssd_formats.specs.TraceText.{is_of_actor, is_read_call, most_calls};
     ghost use Rattle.ssd_geo.specs.declared.trace.TraceCall.{TraceCall};
 
     ghost Value = { List TraceCall };

@@ -1,8 +1,8 @@
 // The data of a write: listed bytes, or the number that starts a generator.
 ghost use Rattle.std.specs.Prelude.{◌≡◌, ◌+◌, ◌<◌, ◌∷◌, [], length, slice_index, ok_or, option_map};
-ghost use Rattle.ssd_geo.specs.InputFaults.{bytes as bytes_fault};
-ghost use Rattle.ssd_geo.specs.Numbers.{hex_digit, bytes_of_hex};
-ghost use Rattle.ssd_geo.specs.TraceText.{content_of_text, listed_content, words_content};
+ghost use Rattle.ssd_formats.specs.InputFaults.{bytes as bytes_fault};
+ghost use Rattle.ssd_formats.specs.Numbers.{hex_digit, bytes_of_hex};
+ghost use Rattle.ssd_formats.specs.TraceText.{content_of_text, listed_content, words_content};
 ghost use Rattle.trace_text.specs.Answers.{Answers};
 
 use crate::fault::{LineStop, TraceFault};

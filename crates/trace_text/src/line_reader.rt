@@ -44,9 +44,10 @@ pub struct LineReader {
 
 impl LineReader {
     ghost use Rattle.std.specs.Prelude.{◌<◌, IfOk};
-    ghost use Rattle.ssd_geo.specs.Faults.{HasCause};
-    ghost use Rattle.ssd_geo.specs.Lines.{is_skipped as is_skipped_text};
-    ghost use Rattle.trace_text.specs.DueLines.{FindsDue, long_in_line, ReadsShort, StopHasCause};
+    ghost use Rattle.ssd_formats.specs.Lines.{is_skipped as is_skipped_text};
+    ghost use Rattle.ssd_io.specs.FaultCounts.{MatchesCount};
+    ghost use Rattle.image_file.specs.StopCauses.{StopsWithCause};
+    ghost use Rattle.trace_text.specs.DueLines.{FindsDue, long_in_line, ReadsShort};
     ghost use Rattle.trace_text.specs.ReadLines.{IsAtStart, Leaves, ReadsLine, Takes, text_of};
 
     /// No line was taken.
@@ -105,7 +106,7 @@ impl LineReader {
     fn read_line<S: Source>(&mut self, input: &mut S) -> Result<Ahead, Failed>
         requires { self.old.taken ≤ 2 ^ 26 }
         ensures read { IfOk result (λ ahead. ReadsLine ahead self.old self.new (S.left input.old) (S.left input.new)) }
-        ensures cause { HasCause (S.faults input.old) (S.faults input.new) result }
+        ensures cause { MatchesCount (S.faults input.old) (S.faults input.new) result }
     {
         self.leave();
         match self.window.seek(input)? {
@@ -139,7 +140,7 @@ impl LineReader {
     fn read_short<S: Source>(&mut self, input: &mut S) -> Result<bool, ReadStop<TraceFault>>
         requires { self.old.taken ≤ 2 ^ 26 }
         ensures read { ReadsShort result self.old self.new (S.left input.old) (S.left input.new) }
-        ensures cause { StopHasCause (S.faults input.old) (S.faults input.new) result }
+        ensures cause { StopsWithCause (S.faults input.old) (S.faults input.new) result }
     {
         match self.read_line(input) {
             Err(Failed) => Err(ReadStop::ReadFault),
@@ -167,7 +168,7 @@ impl LineReader {
     pub fn next_due<S: Source>(&mut self, input: &mut S) -> Result<bool, ReadStop<TraceFault>>
         requires { self.old.taken ≤ 2 ^ 26 }
         ensures due { FindsDue result self.old self.new (S.left input.old) (S.left input.new) }
-        ensures cause { StopHasCause (S.faults input.old) (S.faults input.new) result }
+        ensures cause { StopsWithCause (S.faults input.old) (S.faults input.new) result }
     {
         'reading: while self.read_short(input)? {
             if !self.is_skipped() {

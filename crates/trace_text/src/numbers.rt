@@ -4,9 +4,10 @@ ghost use Rattle.std.specs.Char.{is_ascii_digit};
 ghost use Rattle.std.specs.List.{list_all};
 ghost use Rattle.std.specs.Str.{all_ascii_digits};
 ghost use Rattle.std.specs.Str.Parse.{digits_value};
-ghost use Rattle.ssd_geo.specs.Fields.{is_below, is_within};
-ghost use Rattle.ssd_geo.specs.Numbers.{is_number as is_number_text};
-ghost use Rattle.ssd_geo.specs.TraceText.{number_word, ranged_word};
+ghost use Rattle.ssd_formats.specs.Fields.{is_below};
+ghost use Rattle.ssd_geo.specs.Limits.{is_within};
+ghost use Rattle.ssd_formats.specs.Numbers.{is_number as is_number_text};
+ghost use Rattle.ssd_formats.specs.TraceText.{number_word, ranged_word};
 ghost use Rattle.trace_text.specs.Answers.{named, named_fault};
 ghost use Rattle.trace_text.specs.Spelled.{fitting, fitting_number, tested_word};
 

@@ -1,9 +1,10 @@
 // A whole trace.
 ghost use Rattle.std.specs.Prelude.{◌≡◌, ◌+◌, ◌≤◌, ◌^◌, [], IfOk, OnOk};
-ghost use Rattle.ssd_geo.specs.ImageHead.{sizes_of};
-ghost use Rattle.ssd_geo.specs.TraceText.{calls_of_lines};
-ghost use Rattle.trace_text.specs.BytesAhead.{IsTold, lines_ahead};
-ghost use Rattle.trace_text.specs.DueLines.{StopHasCause};
+ghost use Rattle.ssd_formats.specs.ImageHead.{sizes_of};
+ghost use Rattle.ssd_formats.specs.TraceText.{calls_of_lines};
+ghost use Rattle.ssd_io.specs.Told.{IsTold};
+ghost use Rattle.image_file.specs.StopCauses.{StopsWithCause};
+ghost use Rattle.trace_text.specs.BytesAhead.{lines_ahead};
 ghost use Rattle.trace_text.specs.NumberedCalls.{AreCalls, IsNumbered};
 ghost use Rattle.trace_text.specs.ReadLines.{pending};
 ghost use Rattle.trace_text.specs.ReadTraces.{begun_of, GivesActors, GivesCalls, ReadsTrace, stop_in_line};
@@ -34,7 +35,7 @@ fn read_actors<S: Source>(input: &mut S, lines: &mut LineReader) -> Result<u8, R
         (begun_of (lines.old.number + 1) lines.old.taken (lines_ahead (pending lines.old) (S.left input.old))) }
     ensures range { IfOk result (λ n. (1 ≤ n) × (n ≤ 32)) }
     ensures short { OnOk result (lines.new.taken ≤ 2 ^ 26) }
-    ensures cause { StopHasCause (S.faults input.old) (S.faults input.new) result }
+    ensures cause { StopsWithCause (S.faults input.old) (S.faults input.new) result }
 {
     if !lines.next_due(input)? {
         return Err(ReadStop::Fault {
@@ -61,7 +62,7 @@ fn read_calls<S: Source>(
     ensures read { IsTold (S.left input.old) → GivesCalls result (S.left input.new)
         (calls_of_lines (sizes_of shape.now) actors (lines.old.number + 1) lines.old.taken [] (lines_ahead (pending lines.old) (S.left input.old))) }
     ensures numbered { IfOk result (AreCalls (sizes_of shape.now) actors) }
-    ensures cause { StopHasCause (S.faults input.old) (S.faults input.new) result }
+    ensures cause { StopsWithCause (S.faults input.old) (S.faults input.new) result }
 {
     let mut calls = CallList::new(alloc);
     'reading: while lines.next_due(input)? {
@@ -81,7 +82,7 @@ pub fn read_trace<S: Source>(
 ) -> Result<Trace, ReadStop<TraceFault>>
     ensures read { ReadsTrace result (sizes_of head.now.shape) (S.left input.old) (S.left input.new) }
     ensures numbered { IfOk result (IsNumbered (sizes_of head.now.shape)) }
-    ensures cause { StopHasCause (S.faults input.old) (S.faults input.new) result }
+    ensures cause { StopsWithCause (S.faults input.old) (S.faults input.new) result }
 {
     let Ok(mut lines) = LineReader::new(alloc) else {
         return Err(ReadStop::Memory);

@@ -1,7 +1,7 @@
 // The verb of a call and its arguments. The number of arguments is tested before the first of them.
 ghost use Rattle.std.specs.Prelude.{◌≡◌, ◌<◌, ◌*◌, ◌^◌, ◌∷◌, Ok, option_copied, IfOk};
-ghost use Rattle.ssd_geo.specs.ImageHead.{sizes_of};
-ghost use Rattle.ssd_geo.specs.TraceText.{age_of, bounded_word, collect_of, drain_of, page_word, pages_of_drive, verb_of as verb_of_words, write_of};
+ghost use Rattle.ssd_formats.specs.ImageHead.{sizes_of};
+ghost use Rattle.ssd_formats.specs.TraceText.{age_call_of, bounded_word, collect_call_of, drain_call_of, page_word, pages_of_drive, verb_of as verb_of_words, write_call_of};
 ghost use Rattle.trace_text.specs.Answers.{Answers, named};
 ghost use Rattle.trace_text.specs.Arguments.{other_verb_of, page_verb_of, amount_with as amount_with_words, die_with as die_with_words, write_with as write_with_words};
 ghost use Rattle.trace_text.specs.WordsLeft.{only_page_of, words_left};
@@ -55,14 +55,14 @@ fn block(shape: &Shape, word: &[u8]) -> Result<u16, TraceFault>
 }
 
 fn collect(shape: &Shape, arguments: Option<&[u8]>) -> Result<Verb, TraceFault>
-    ensures { named result ≡ collect_of (sizes_of shape.now) (words_left (option_copied arguments.entry)) }
+    ensures { named result ≡ collect_call_of (sizes_of shape.now) (words_left (option_copied arguments.entry)) }
 {
     let channel = channel(shape, only_word(arguments)?)?;
     Ok(Verb::Collect { channel })
 }
 
 fn drain(arguments: Option<&[u8]>) -> Result<Verb, TraceFault>
-    ensures { named result ≡ drain_of (words_left (option_copied arguments.entry)) }
+    ensures { named result ≡ drain_call_of (words_left (option_copied arguments.entry)) }
 {
     let count = within(only_word(arguments)?, 1, 16)?;
     Ok(Verb::Drain { count: count as u8 })
@@ -88,7 +88,7 @@ fn amount_with(shape: &Shape, block_at: &[u8], amount_at: &[u8]) -> Result<(u16,
 
 #[tactic(auto, using(crate::proofs::Arguments::age_is))]
 fn age(shape: &Shape, arguments: Option<&[u8]>) -> Result<Verb, TraceFault>
-    ensures { named result ≡ age_of (sizes_of shape.now) (words_left (option_copied arguments.entry)) }
+    ensures { named result ≡ age_call_of (sizes_of shape.now) (words_left (option_copied arguments.entry)) }
 {
     let ((channel, die), (block, amount)) = four_words(arguments)?;
     let (channel, die) = die_with(shape, channel, die)?;
@@ -116,7 +116,7 @@ fn write_with(
 
 #[tactic(auto, using(crate::proofs::Arguments::write_is))]
 fn write(alloc: Global, shape: &Shape, arguments: Option<&[u8]>) -> Result<Verb, LineStop>
-    ensures { Answers result (write_of (sizes_of shape.now) (words_left (option_copied arguments.entry))) }
+    ensures { Answers result (write_call_of (sizes_of shape.now) (words_left (option_copied arguments.entry))) }
 {
     match two_words(arguments) {
         Ok((page_at, data_at)) => write_with(alloc, shape, page_at, data_at),

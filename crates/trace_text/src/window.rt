@@ -1,6 +1,6 @@
 // The bytes that were read from the source and not taken yet.
 ghost use Rattle.std.specs.Prelude.{◌≡◌, ◌≤◌, length, position};
-ghost use Rattle.ssd_geo.specs.Lines.{is_line_feed};
+ghost use Rattle.ssd_formats.specs.Lines.{is_line_feed};
 
 use crate::fault::LineStop;
 use ssd_io::{Failed, Source};
@@ -38,7 +38,7 @@ pub struct Window {
 
 impl Window {
     ghost use Rattle.std.specs.Prelude.{◌<◌, [], IfOk, drop};
-    ghost use Rattle.ssd_geo.specs.Faults.{HasCause};
+    ghost use Rattle.ssd_io.specs.FaultCounts.{MatchesCount};
     ghost use Rattle.trace_text.specs.BytesAhead.{Fetches, Seeks};
     ghost use Rattle.trace_text.specs.Windows.{held, room};
 
@@ -97,7 +97,7 @@ impl Window {
     fn fetch<S: Source>(&mut self, input: &mut S) -> Result<usize, Failed>
         requires room { length (held self.old) < room }
         ensures bytes { IfOk result (λ n. Fetches n (held self.old) (held self.new) (S.left input.old) (S.left input.new)) }
-        ensures cause { HasCause (S.faults input.old) (S.faults input.new) result }
+        ensures cause { MatchesCount (S.faults input.old) (S.faults input.new) result }
     {
         self.make_room();
         let given = input.read(&mut self.bytes[self.to..])?;
@@ -116,7 +116,7 @@ impl Window {
     /// Reads on until there is an LF, or the source is at its end, or there are more bytes than a line may have.
     pub fn seek<S: Source>(&mut self, input: &mut S) -> Result<Found, Failed>
         ensures found { IfOk result (λ found. Seeks found (held self.old) (held self.new) (S.left input.old) (S.left input.new)) }
-        ensures cause { HasCause (S.faults input.old) (S.faults input.new) result }
+        ensures cause { MatchesCount (S.faults input.old) (S.faults input.new) result }
     {
         let mut looked = 0;
         'reading: loop {

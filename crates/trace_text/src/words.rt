@@ -1,7 +1,7 @@
 // Words of a line, which stand between single spaces.
 ghost use Rattle.std.specs.Prelude.{◌≡◌, ◌==◌, ◌∷◌, length, not, option_copied, position};
 ghost use Rattle.std.specs.List.{list_all};
-ghost use Rattle.ssd_geo.specs.Lines.{is_line_of_words as is_line_of_words_text, is_plain, is_space, words_in};
+ghost use Rattle.ssd_formats.specs.Lines.{is_line_of_words as is_line_of_words_text, is_plain, is_space, words_in};
 ghost use Rattle.trace_text.specs.Answers.{named};
 ghost use Rattle.trace_text.specs.WordsLeft.{four_words as four_of_words, next_two as next_two_of_words, next_word as next_of_words, only_word as only_of_words, two_words as two_of_words, words_left};
 ghost use Rattle.trace_text.specs.WordsLeft.{cut_of, cut_two_of, four_of, two_of, word_of};

@@ -1,7 +1,7 @@
 // Lines of histories: the line of a channel, and one for each entry.
 ghost use Rattle.std.specs.Prelude.{◌≡◌, []};
-ghost use Rattle.ssd_geo.specs.HistoryText.{count_of_words, entries_of_lines, entry_of_words};
-ghost use Rattle.ssd_geo.specs.HistoryText.{next_line};
+ghost use Rattle.ssd_formats.specs.HistoryText.{count_of_words, entries_of_lines, entry_of_words};
+ghost use Rattle.ssd_formats.specs.HistoryText.{next_line};
 ghost use Rattle.history_text.specs.LinesLeft.{Reads, channel_of_lines, count_of};
 ghost use Rattle.history_text.specs.Pieces.{pieces_of};
 

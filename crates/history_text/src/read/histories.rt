@@ -1,6 +1,6 @@
 // The histories of all channels.
 ghost use Rattle.std.specs.Prelude.{◌≡◌, [], IfErr, IfOk, Ok};
-ghost use Rattle.ssd_geo.specs.HistoryText.{histories_of_lines, read_history as histories_of_text};
+ghost use Rattle.ssd_formats.specs.HistoryText.{histories_of_lines, read_history as histories_of_text};
 ghost use Rattle.history_text.specs.LinesLeft.{Reads, StopsAt, items_of};
 
 use crate::fault::HistoryFault;

@@ -1,7 +1,7 @@
 // What a step did: first its name, and then the words that are due.
 ghost use Rattle.std.specs.Prelude.{◌≡◌, ◌∷◌, option_copied};
-ghost use Rattle.ssd_geo.specs.KindOfWords.{bad_of, changed_of, fault_of, kind_of_words, look_of};
-ghost use Rattle.ssd_geo.specs.KindOfWords.{note_of};
+ghost use Rattle.ssd_formats.specs.KindOfWords.{read_bad, read_changed, read_fault, kind_of_words, read_look};
+ghost use Rattle.ssd_formats.specs.KindOfWords.{read_note};
 ghost use Rattle.history_text.specs.Pieces.{pieces_left};
 ghost use Rattle.history_text.specs.StepWords.{block_step_of, copy_step_of, other_step_of};
 
@@ -15,7 +15,7 @@ use ssd_geo::Kind;
 
 #[tactic(auto, using(crate::proofs::StepParts::look_is))]
 fn look(words: Option<&[u8]>) -> Option<Kind>
-    ensures { result ≡ look_of (pieces_left 32 (option_copied words.entry)) }
+    ensures { result ≡ read_look (pieces_left 32 (option_copied words.entry)) }
 {
     let (row, words) = next_piece(SPACE, words)?;
     let row = number_32(row)?;
@@ -25,7 +25,7 @@ fn look(words: Option<&[u8]>) -> Option<Kind>
 
 #[tactic(auto, using(crate::proofs::StepParts::changed_is))]
 fn changed(words: Option<&[u8]>) -> Option<Kind>
-    ensures { result ≡ changed_of (pieces_left 32 (option_copied words.entry)) }
+    ensures { result ≡ read_changed (pieces_left 32 (option_copied words.entry)) }
 {
     let (at, words) = next_piece(SPACE, words)?;
     let at = number_32(at)?;
@@ -35,7 +35,7 @@ fn changed(words: Option<&[u8]>) -> Option<Kind>
 
 #[tactic(auto, using(crate::proofs::StepParts::note_is))]
 fn note(words: Option<&[u8]>) -> Option<Kind>
-    ensures { result ≡ note_of (pieces_left 32 (option_copied words.entry)) }
+    ensures { result ≡ read_note (pieces_left 32 (option_copied words.entry)) }
 {
     let (free, sb, live, pins, garbage) = five_pieces(SPACE, words)?;
     let free = number_16(free)?;
@@ -55,7 +55,7 @@ fn note(words: Option<&[u8]>) -> Option<Kind>
 // A program or an erase that failed.
 #[tactic(auto, using(crate::proofs::StepParts::bad_slot_is, crate::proofs::StepParts::bad_erase_is))]
 fn bad_named(name: &[u8], words: Option<&[u8]>) -> Option<Kind>
-    ensures { result ≡ bad_of (name.now ∷ pieces_left 32 (option_copied words.entry)) }
+    ensures { result ≡ read_bad (name.now ∷ pieces_left 32 (option_copied words.entry)) }
 {
     if name == b"write".as_slice() {
         let (row, slot, die, fault) = bad_slot(words)?;
@@ -85,7 +85,7 @@ fn bad_named(name: &[u8], words: Option<&[u8]>) -> Option<Kind>
 // A die's fault in a sense or an ageing.
 #[tactic(auto, using(crate::proofs::StepParts::sensed_is, crate::proofs::StepParts::aged_is))]
 fn fault_named(name: &[u8], words: Option<&[u8]>) -> Option<Kind>
-    ensures { result ≡ fault_of (name.now ∷ pieces_left 32 (option_copied words.entry)) }
+    ensures { result ≡ read_fault (name.now ∷ pieces_left 32 (option_copied words.entry)) }
 {
     if name == b"sense".as_slice() {
         let (at, place, level) = sensed(words)?;
@@ -100,7 +100,7 @@ fn fault_named(name: &[u8], words: Option<&[u8]>) -> Option<Kind>
 
 #[tactic(auto, using(crate::proofs::StepParts::bad_is))]
 fn bad(words: Option<&[u8]>) -> Option<Kind>
-    ensures { result ≡ bad_of (pieces_left 32 (option_copied words.entry)) }
+    ensures { result ≡ read_bad (pieces_left 32 (option_copied words.entry)) }
 {
     let (name, words) = next_piece(SPACE, words)?;
     bad_named(name, words)
@@ -108,7 +108,7 @@ fn bad(words: Option<&[u8]>) -> Option<Kind>
 
 #[tactic(auto, using(crate::proofs::StepParts::fault_is))]
 fn fault(words: Option<&[u8]>) -> Option<Kind>
-    ensures { result ≡ fault_of (pieces_left 32 (option_copied words.entry)) }
+    ensures { result ≡ read_fault (pieces_left 32 (option_copied words.entry)) }
 {
     let (name, words) = next_piece(SPACE, words)?;
     fault_named(name, words)

@@ -1,6 +1,6 @@
 // The lines of a text, each of which ends with LF.
 ghost use Rattle.std.specs.Prelude.{◌≡◌, ◌==◌, ◌<◌, ◌+◌, ◌^◌, length};
-ghost use Rattle.ssd_geo.specs.HistoryText.{printed};
+ghost use Rattle.ssd_formats.specs.HistoryText.{printed};
 ghost use Rattle.history_text.specs.LinesLeft.{TakesLine};
 
 use crate::fault::HistoryFault;
@@ -18,7 +18,7 @@ pub struct Lines<'a> {
 
 impl<'a> Model for Lines<'a> {
     ghost use Rattle.std.specs.Prelude.{◌<◌, ◌+◌, ◌^◌, length};
-    ghost use Rattle.ssd_geo.specs.HistoryText.{Printed};
+    ghost use Rattle.ssd_formats.specs.HistoryText.{Printed};
     ghost use Rattle.history_text.specs.LinesLeft.{lines_left};
 
     ghost Value = { Printed };

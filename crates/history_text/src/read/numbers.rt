@@ -2,11 +2,11 @@
 ghost use Rattle.std.specs.Prelude.{◌≡◌, ◌∷◌};
 ghost use Rattle.std.specs.List.{list_all};
 ghost use Rattle.std.specs.Char.{is_ascii_digit};
-ghost use Rattle.ssd_geo.specs.KindOfWords.{level_of, number_8 as number_of_8};
-ghost use Rattle.ssd_geo.specs.KindOfWords.{number_16 as number_of_16, number_32 as number_of_32};
-ghost use Rattle.ssd_geo.specs.KindOfWords.{number_64 as number_of_64};
-ghost use Rattle.ssd_geo.specs.Numbers.{is_number as is_number_text, number_below};
-ghost use Rattle.ssd_geo.specs.HistoryText.{spells as spells_number};
+ghost use Rattle.ssd_formats.specs.KindOfWords.{read_level, number_8 as number_of_8};
+ghost use Rattle.ssd_formats.specs.KindOfWords.{number_16 as number_of_16, number_32 as number_of_32};
+ghost use Rattle.ssd_formats.specs.KindOfWords.{number_64 as number_of_64};
+ghost use Rattle.ssd_formats.specs.Numbers.{is_number as is_number_text, number_below};
+ghost use Rattle.ssd_formats.specs.HistoryText.{spells as spells_number};
 
 use itoa::Buffer;
 use std::str;
@@ -79,7 +79,7 @@ pub fn number_8(word: &[u8]) -> Option<u8>
 
 /// The level that a word spells.
 pub fn level(word: &[u8]) -> Option<i16>
-    ensures { result ≡ level_of word.now }
+    ensures { result ≡ read_level word.now }
 {
     match word {
         [b'-', digits @ ..] => negative(digits),
@@ -92,7 +92,7 @@ pub fn level(word: &[u8]) -> Option<i16>
 
 // The level below 0 whose digits these are.
 fn negative(digits: &[u8]) -> Option<i16>
-    ensures { result ≡ level_of (45 ∷ digits.now) }
+    ensures { result ≡ read_level (45 ∷ digits.now) }
 {
     match below(32769, digits)? {
         0 => None,

@@ -1,6 +1,6 @@
 // What a row held, and other words with few meanings.
 ghost use Rattle.std.specs.Prelude.{◌≡◌, [], ◌∷◌, option_copied};
-ghost use Rattle.ssd_geo.specs.KindOfWords.{found_of, one_of as one_of_words, row_of};
+ghost use Rattle.ssd_formats.specs.KindOfWords.{read_found, one_of as one_of_words, read_row};
 ghost use Rattle.history_text.specs.Pieces.{pieces_left};
 
 use crate::read::addresses::slot;
@@ -20,14 +20,14 @@ pub fn one_of(first: &[u8], second: &[u8], word: &[u8]) -> Option<bool>
 
 // What a row held, in one word.
 fn without_page(word: &[u8]) -> Option<Row>
-    ensures { result ≡ row_of (word.now ∷ []) }
+    ensures { result ≡ read_row (word.now ∷ []) }
 {
     let empty = one_of(b"empty", b"lost", word)?;
     Some(if empty { Row::Empty } else { Row::Lost })
 }
 
 fn page(word: &[u8], slot_at: &[u8], serial_at: &[u8]) -> Option<Row>
-    ensures { result ≡ row_of (word.now ∷ slot_at.now ∷ serial_at.now ∷ []) }
+    ensures { result ≡ read_row (word.now ∷ slot_at.now ∷ serial_at.now ∷ []) }
 {
     if word != b"page".as_slice() {
         return None;
@@ -40,7 +40,7 @@ fn page(word: &[u8], slot_at: &[u8], serial_at: &[u8]) -> Option<Row>
 /// What a row held.
 #[tactic(auto, using(crate::proofs::RowWords::row_is))]
 pub fn row(words: Option<&[u8]>) -> Option<Row>
-    ensures { result ≡ row_of (pieces_left 32 (option_copied words.entry)) }
+    ensures { result ≡ read_row (pieces_left 32 (option_copied words.entry)) }
 {
     let (word, behind) = next_piece(SPACE, words)?;
     if behind.is_none() {
@@ -53,7 +53,7 @@ pub fn row(words: Option<&[u8]>) -> Option<Row>
 /// What a look found, and whether the stripe of a page found was closed.
 #[tactic(auto, using(crate::proofs::RowWords::found_is))]
 pub fn found(words: Option<&[u8]>) -> Option<(Row, bool)>
-    ensures { result ≡ found_of (pieces_left 32 (option_copied words.entry)) }
+    ensures { result ≡ read_found (pieces_left 32 (option_copied words.entry)) }
 {
     let (word, behind) = next_piece(SPACE, words)?;
     if behind.is_none() {

@@ -1,6 +1,6 @@
 // The words behind the name of a step.
 ghost use Rattle.std.specs.Prelude.{◌≡◌, option_copied};
-ghost use Rattle.ssd_geo.specs.KindOfWords.{victim_of};
+ghost use Rattle.ssd_formats.specs.KindOfWords.{read_victim};
 ghost use Rattle.history_text.specs.Pieces.{pieces_left};
 ghost use Rattle.history_text.specs.StepWords.{aged_in, bad_erase_in, bad_slot_in, number_in};
 ghost use Rattle.history_text.specs.StepWords.{sensed_in, slotted_in, superblock_in, worn_in};
@@ -26,7 +26,7 @@ pub fn superblock(words: Option<&[u8]>) -> Option<u16>
 
 /// The superblock of a victim, or that there is none.
 pub fn victim(word: &[u8]) -> Option<Option<u16>>
-    ensures { result ≡ victim_of word.now }
+    ensures { result ≡ read_victim word.now }
 {
     if word == b"-".as_slice() {
         return Some(None);

@@ -1,5 +1,5 @@
 use Rattle.std.proofs.Common.{ℕ, ◌+◌, ◌*◌, ◌^◌, ◌<◌, ◌≤◌, ◌≡◌, get_or, drop}
-use Rattle.ssd_geo.specs.RunText.{answered_calls}
+use Rattle.ssd_formats.specs.RunText.{answered_calls}
 use Rattle.history_text.specs.Places.{placed_calls}
 use Rattle.history_text.proofs.call_counts.count_calls.Given as goal
 

@@ -1,6 +1,6 @@
 use Rattle.history_text.proofs.Chains.{prints_then, prints_front}
 use Rattle.std.proofs.Common.{map, decimal}
-use Rattle.ssd_geo.specs.EntryText.{tag_text}
+use Rattle.ssd_formats.specs.EntryText.{tag_text}
 use Rattle.history_text.specs.WordText.{word_text}
 use Rattle.history_text.proofs.Chains.{stops_then, stops_early}
 use Rattle.history_text.proofs.TextPieces.{stops_step, prints_step}

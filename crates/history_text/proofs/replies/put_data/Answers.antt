@@ -1,6 +1,6 @@
 use Rattle.history_text.proofs.Chains.{prints_then, prints_front}
 use Rattle.std.proofs.Common.{[], ◌∷◌, decimal, codes}
-use Rattle.ssd_geo.specs.Numbers.{hex_of_bytes}
+use Rattle.ssd_formats.specs.Numbers.{hex_of_bytes}
 use Rattle.history_text.proofs.Chains.{stops_then, stops_early}
 use Rattle.history_text.proofs.TextPieces.{stops_last, prints_last}
 use Rattle.history_text.proofs.replies.put_data.Goals as goal

@@ -1,6 +1,6 @@
 use Rattle.history_text.proofs.Chains.{prints_then, prints_front}
 use Rattle.std.proofs.Common.{[], ◌∷◌, map, decimal, codes, length}
-use Rattle.ssd_geo.specs.ReplyText.{drained_text}
+use Rattle.ssd_formats.specs.ReplyText.{drained_text}
 use Rattle.history_text.proofs.Chains.{stops_then, stops_early}
 use Rattle.history_text.proofs.TextPieces.{stops_last, prints_last}
 use Rattle.history_text.proofs.replies.put_drained.Goals as goal

@@ -1,5 +1,5 @@
 use Rattle.history_text.proofs.Chains.{prints_then, prints_front}
-use Rattle.ssd_geo.specs.Numbers.{hex_of_bytes}
+use Rattle.ssd_formats.specs.Numbers.{hex_of_bytes}
 use Rattle.history_text.proofs.Chains.{stops_then, stops_early}
 use Rattle.history_text.proofs.TextPieces.{stops_same, prints_same, one_word}
 use Rattle.history_text.proofs.replies.put_hex_end.Goals as goal

@@ -1,6 +1,6 @@
 use Rattle.history_text.proofs.Chains.{prints_then, prints_front}
 use Rattle.std.proofs.Common.{[], ◌∷◌, decimal, append_assoc, sym}
-use Rattle.ssd_geo.specs.ReplyText.{refresh_text}
+use Rattle.ssd_formats.specs.ReplyText.{refresh_text}
 use Rattle.history_text.proofs.Chains.{stops_then, stops_early}
 use Rattle.history_text.proofs.TextPieces.{stops_same, prints_same}
 use Rattle.history_text.proofs.replies.put_page.Goals as goal

@@ -1,5 +1,5 @@
 use Rattle.std.proofs.Common.{ap, refl, sym, ◌∙◌, arith, ◌-◌, ℕ}
-use Rattle.ssd_geo.specs.RunText.{summary_text, summary_of}
+use Rattle.ssd_formats.specs.RunText.{summary_text, summary_of}
 use Rattle.history_text.proofs.Counting.{summary_same}
 use Rattle.history_text.proofs.TextPieces.{prints_same}
 use Rattle.history_text.specs.declared.summary.Hints.{Hints}

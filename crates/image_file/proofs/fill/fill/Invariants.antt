@@ -7,7 +7,7 @@ invariant-loop-at g l = record {
   within : l.at ≤ length l.into;
   same_length : length l.into ≡ length l.initial.into;
   read : Consumes (g.S.Source.left l.initial.input) (g.S.Source.left l.input) (take l.at l.into);
-  never_fell : g.S.Source.faults l.initial.input ≤ g.S.Source.faults l.input;
+  stays : g.S.Source.faults l.input ≡ g.S.Source.faults l.initial.input;
 }
 
 abbrev pub decreases-loop-at : goal.decreases-loop-at

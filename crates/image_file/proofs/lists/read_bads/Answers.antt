@@ -1,5 +1,5 @@
 use Rattle.std.proofs.Common.{◌≡◌, [], ◌∷◌, ◌++◌, ap, ◌∙◌, rules, ◌+◌, ◌*◌, ◌-◌, arith}
-use Rattle.ssd_geo.specs.ImageHead.{bad_records, is_bad_record, sizes_of}
+use Rattle.ssd_formats.specs.ImageHead.{bad_records, is_bad_record, sizes_of}
 use Rattle.image_file.specs.Gives.{rest_at}
 use Rattle.image_file.proofs.LevelSteps.{bad_more, bad_stops, cause_earlier}
 use Rattle.image_file.proofs.ListRanges.{bad_longer}
@@ -11,8 +11,8 @@ returns-in-Err-clause-read g c =
     let same : c.deref.result.now ≡ c.loop-i.bad.items = search rules in
     record {
       given = λ told. bad_stops (sizes_of c.args.shape.now) c.in-Err.stop (c.args.count - c.loop-i.i) (c.args.count - (c.loop-i.i + 1)) c.deref.result.now (rest_at (c.args.place + 4 * c.loop-i.i) (g.S.Source.left c.loop-i.input)) _ (omega arith) (c.in-Err.ensures.read.given (c.loop-i.invariant.told told)) (ap (λ before. bad_records (sizes_of c.args.shape.now) (c.args.count - c.loop-i.i) before (rest_at (c.args.place + 4 * c.loop-i.i) (g.S.Source.left c.loop-i.input))) same ∙ c.loop-i.invariant.read told);
-      never_fell = omega (arith, c.loop-i.invariant.never_fell, c.in-Err.ensures.read.never_fell);
-      cause = cause_earlier c.in-Err.stop _ _ _ c.loop-i.invariant.never_fell c.in-Err.ensures.read.cause;
+      never_fell = omega (arith, c.loop-i.invariant.stays, c.in-Err.ensures.read.never_fell);
+      cause = cause_earlier c.in-Err.stop _ _ _ c.loop-i.invariant.stays c.in-Err.ensures.read.cause;
     }
 
 pub loop-i-preserved : goal.loop-i-preserved
@@ -33,5 +33,5 @@ loop-i-preserved g c = record {
       let pushed : c.push.new.self.items ≡ c.loop-i.bad.items ++ c.in-Ok.next ∷ [] = search rules in
       let one : IsTrue (is_bad_record (sizes_of c.args.shape.now) c.loop-i.bad.items c.in-Ok.next) = search rules in
       rw pushed (bad_longer (sizes_of c.args.shape.now) c.loop-i.bad.items c.loop-i.i c.in-Ok.next c.loop-i.invariant.good one);
-  never_fell = omega (arith, c.loop-i.invariant.never_fell, c.in-Ok.ensures.read.never_fell);
+  stays = c.in-Ok.ensures.read.cause ∙ c.loop-i.invariant.stays;
 }

@@ -1,6 +1,7 @@
-use Rattle.std.proofs.Common.{◌+◌, ◌*◌, ◌-◌, ◌≡◌, ◌≤◌, [], length}
-use Rattle.ssd_geo.specs.ImageHead.{bad_records, sizes_of}
-use Rattle.image_file.specs.Gives.{IsTold, rest_at}
+use Rattle.std.proofs.Common.{◌+◌, ◌*◌, ◌-◌, ◌≡◌, [], length}
+use Rattle.ssd_formats.specs.ImageHead.{bad_records, sizes_of}
+use Rattle.ssd_io.specs.Told.{IsTold}
+use Rattle.image_file.specs.Gives.{rest_at}
 use Rattle.image_file.specs.Lists.{AreBad}
 use Rattle.image_file.proofs.lists.read_bads.Given as goal
 
@@ -10,5 +11,5 @@ invariant-loop-i g l = record {
   read : IsTold (g.S.Source.left l.initial.input) → bad_records (sizes_of l.shape) (l.count - l.i) l.bad.items (rest_at (l.place + 4 * l.i) (g.S.Source.left l.input)) ≡ bad_records (sizes_of l.shape) l.count [] (rest_at l.place (g.S.Source.left l.initial.input));
   few : length l.bad.items ≡ l.i;
   good : AreBad (sizes_of l.shape) l.i l.bad.items;
-  never_fell : g.S.Source.faults l.initial.input ≤ g.S.Source.faults l.input;
+  stays : g.S.Source.faults l.input ≡ g.S.Source.faults l.initial.input;
 }

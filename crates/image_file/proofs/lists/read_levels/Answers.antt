@@ -2,15 +2,15 @@ use Rattle.std.proofs.Common.{◌≡◌, [], ◌∷◌, ◌++◌, ◌∙◌, rul
 use Rattle.image_file.specs.Gives.{rest_at}
 use Rattle.image_file.proofs.LevelSteps.{level_more, level_stops, cause_earlier}
 use Rattle.image_file.proofs.ListRanges.{levels_longer}
-use Rattle.ssd_geo.specs.Fields.{is_level}
+use Rattle.ssd_geo.specs.Limits.{is_level}
 use Rattle.std.specs.Prelude.{IsTrue}
 use Rattle.image_file.proofs.lists.read_levels.Goals as goal
 
 pub returns-in-Err-clause-read : goal.returns-in-Err-clause-read
 returns-in-Err-clause-read g c = record {
   given = λ told. level_stops c.in-Err.stop (c.args.count - c.loop-i.i) (c.args.count - (c.loop-i.i + 1)) c.loop-i.levels.items (rest_at (c.args.place + 2 * c.loop-i.i) (g.S.Source.left c.loop-i.input)) _ (omega arith) (c.in-Err.ensures.read.given (c.loop-i.invariant.told told)) (c.loop-i.invariant.read told);
-  never_fell = omega (arith, c.loop-i.invariant.never_fell, c.in-Err.ensures.read.never_fell);
-  cause = cause_earlier c.in-Err.stop _ _ _ c.loop-i.invariant.never_fell c.in-Err.ensures.read.cause;
+  never_fell = omega (arith, c.loop-i.invariant.stays, c.in-Err.ensures.read.never_fell);
+  cause = cause_earlier c.in-Err.stop _ _ _ c.loop-i.invariant.stays c.in-Err.ensures.read.cause;
 }
 
 pub loop-i-preserved : goal.loop-i-preserved
@@ -27,5 +27,5 @@ loop-i-preserved g c =
           let next = rest_at (c.args.place + 2 * c.loop-i.i + 2) (g.S.Source.left c.i16_within.new.input) in
           rw (pushed, place) (level_more left (c.args.count - (c.loop-i.i + 1)) c.loop-i.levels.items rest next c.in-Ok.level (omega arith) read ∙ c.loop-i.invariant.read told);
       good = rw pushed (levels_longer c.loop-i.levels.items c.loop-i.i c.in-Ok.level c.loop-i.invariant.good one);
-      never_fell = omega (arith, c.loop-i.invariant.never_fell, c.in-Ok.ensures.read.never_fell);
+      stays = c.in-Ok.ensures.read.cause ∙ c.loop-i.invariant.stays;
     }

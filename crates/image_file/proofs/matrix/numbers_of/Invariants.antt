@@ -1,5 +1,5 @@
 use Rattle.std.proofs.Common.{◌≡◌, ◌*◌, ◌++◌, drop, length}
-use Rattle.ssd_geo.specs.ImageHead.{signed_numbers}
+use Rattle.ssd_formats.specs.ImageHead.{signed_numbers}
 use Rattle.image_file.proofs.matrix.numbers_of.Given as goal
 
 abbrev pub invariant-loop-i : goal.invariant-loop-i

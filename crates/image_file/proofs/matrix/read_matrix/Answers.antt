@@ -1,9 +1,10 @@
 use Rattle.std.proofs.Common.{◌≡◌, List, ℤ, rules, subst, sym}
 use Rattle.qc_matrix.specs.Fault.{IsFirstFault}
 use Rattle.ssd_geo.specs.BaseMatrix.{IsAccepted, first_fault}
-use Rattle.ssd_geo.specs.ImageHead.{matrix_field, sizes_of}
-use Rattle.image_file.specs.Gives.{rest_at, StopsAt, StopHasCause}
+use Rattle.ssd_formats.specs.ImageHead.{matrix_field, sizes_of}
+use Rattle.image_file.specs.Gives.{rest_at, StopsAt}
 use Rattle.image_file.specs.Matrix.{matrix_of_shape}
+use Rattle.image_file.specs.StopCauses.{StopHasCause}
 use Rattle.image_file.proofs.MatrixSteps.{matrix_cause, matrix_fails, matrix_passes}
 use Rattle.image_file.proofs.matrix.read_matrix.Goals as goal
 
@@ -17,7 +18,7 @@ returns-in-Ok-clause-read g c =
           let read = c.in_ok-entries.ensures.read.given told in
           (read.0, matrix_passes (sizes_of shape) (rest_at c.args.place (g.S.Source.left c.args.input.now)) _ entries read.1 accepted);
       never_fell = c.in_ok-entries.ensures.read.never_fell;
-      cause = tt;
+      cause = c.in_ok-entries.ensures.read.cause;
     }
 
 pub returns-in-Err-clause-read : goal.returns-in-Err-clause-read
@@ -35,5 +36,5 @@ returns-in-Err-clause-read g c =
           let read = c.in_ok-entries.ensures.read.given told in
           subst (λ s. StopsAt s (matrix_field (sizes_of shape) rest)) (sym c.stop_of.ensures) (matrix_fails (sizes_of shape) rest _ entries c.in-Err.fault read.1 first);
       never_fell = c.in_ok-entries.ensures.read.never_fell;
-      cause = subst (λ s. StopHasCause before now s) (sym c.stop_of.ensures) (matrix_cause before now c.args.place shape.mb shape.nb c.in-Err.fault);
+      cause = subst (λ s. StopHasCause before now s) (sym c.stop_of.ensures) (matrix_cause before now c.args.place shape.mb shape.nb c.in-Err.fault c.in_ok-entries.ensures.read.cause);
     }

@@ -1,9 +1,9 @@
 use Rattle.std.proofs.Common.{◌≡◌, ◌++◌, ap, sym, ◌∙◌}
-use Rattle.ssd_geo.specs.GeneratedWork.{generated_head, generated_trace}
-use Rattle.ssd_geo.specs.ImageHead.{head_bytes}
+use Rattle.ssd_formats.specs.GeneratedWork.{generated_head, generated_trace}
+use Rattle.ssd_formats.specs.ImageHead.{head_bytes}
 use Rattle.ssd_gen.specs.TraceParts.{trace_text}
 use Rattle.ssd_gen.proofs.WorkParts.{trace_is}
-use Rattle.ssd_gen.proofs.WriteSteps.{fails_early, writes_is, writes_then, wrote}
+use Rattle.ssd_io.proofs.WriteSteps.{fails_early, writes_is, writes_then, wrote}
 use Rattle.ssd_gen.proofs.generated.put_work.Goals as goal
 
 pub returns-in_err-put_image : goal.returns-in_err-put_image

@@ -1,9 +1,9 @@
 use Rattle.std.proofs.Common.{◌≡◌, ◌++◌, ℕ, ap, sym, ◌∙◌}
-use Rattle.ssd_geo.specs.GeneratedWork.{generated_head}
-use Rattle.ssd_geo.specs.ImageHead.{head_bytes}
+use Rattle.ssd_formats.specs.GeneratedWork.{generated_head}
+use Rattle.ssd_formats.specs.ImageHead.{head_bytes}
 use Rattle.ssd_gen.specs.HeadParts.{head_end, head_start, matrix_bytes}
 use Rattle.ssd_gen.proofs.WorkParts.{head_is}
-use Rattle.ssd_gen.proofs.WriteSteps.{fails_early, fails_in, writes_is, writes_then, wrote}
+use Rattle.ssd_io.proofs.WriteSteps.{fails_early, fails_in, writes_is, writes_then, wrote}
 use Rattle.ssd_gen.proofs.head.put_image.Goals as goal
 
 -- the parts, with the words of a generator that begins at the number

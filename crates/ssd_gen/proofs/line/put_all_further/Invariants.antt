@@ -1,6 +1,6 @@
 use Rattle.std.proofs.Common.{take}
 use Rattle.ssd_gen.specs.LineText.{further_text}
-use Rattle.ssd_gen.specs.Writes.{Wrote}
+use Rattle.ssd_io.specs.Writes.{Wrote}
 use Rattle.ssd_gen.proofs.line.put_all_further.Given as goal
 
 abbrev pub invariant-loop-word : goal.invariant-loop-word

@@ -1,5 +1,5 @@
 use Rattle.std.proofs.Common.{decimal}
-use Rattle.ssd_gen.proofs.WriteSteps.{fails_early, writes_then, wrote}
+use Rattle.ssd_io.proofs.WriteSteps.{fails_early, writes_then, wrote}
 use Rattle.ssd_gen.proofs.line.put_data.Goals as goal
 
 pub returns-in_err-put : goal.returns-in_err-put

@@ -1,7 +1,7 @@
 use Rattle.std.proofs.Common.{◌∷◌, ◌++◌, []}
 use Rattle.ssd_gen.specs.LineText.{further_text, word_text}
 use Rattle.ssd_gen.proofs.LineParts.{line_parts}
-use Rattle.ssd_gen.proofs.WriteSteps.{fails_early, fails_in, writes_then, wrote}
+use Rattle.ssd_io.proofs.WriteSteps.{fails_early, fails_in, writes_then, wrote}
 use Rattle.ssd_gen.proofs.line.put_line.Goals as goal
 
 pub returns-in_err-put_word : goal.returns-in_err-put_word

@@ -1,14 +1,14 @@
 use Rattle.std.proofs.Common.{◌≡◌, ◌++◌, List, ℕ, ap, sym, ◌∙◌, refl, arith}
 use Rattle.std.specs.List.{range_with_len}
 use Rattle.std.specs.Prelude.{flat_map}
-use Rattle.ssd_geo.specs.GeneratedWork.{drawn_before_row}
+use Rattle.ssd_formats.specs.GeneratedWork.{drawn_before_row}
 use Rattle.ssd_geo.specs.Noise.{state_after}
 use Rattle.ssd_gen.specs.HeadParts.{words_of_matrix}
 use Rattle.ssd_gen.specs.RowWords.{row_bytes, words_of_row}
 use Rattle.ssd_gen.proofs.Ranges.{numbers_at, numbers_behind, numbers_more}
 use Rattle.ssd_gen.proofs.RowSteps.{rows_more, state_next}
 use Rattle.ssd_gen.proofs.WorkParts.{matrix_is, row_piece}
-use Rattle.ssd_gen.proofs.WriteSteps.{fails_in, none_wrote, writes_all, wrote, wrote_then}
+use Rattle.ssd_io.proofs.WriteSteps.{fails_in, none_wrote, writes_all, wrote, wrote_then}
 use Rattle.ssd_gen.proofs.matrix.put_matrix.Goals as goal
 
 pub loop-row-init : goal.loop-row-init

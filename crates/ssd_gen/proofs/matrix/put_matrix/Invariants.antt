@@ -1,9 +1,9 @@
 use Rattle.std.proofs.Common.{◌≡◌}
 use Rattle.std.specs.List.{range_with_len}
 use Rattle.std.specs.Prelude.{flat_map}
-use Rattle.ssd_geo.specs.GeneratedWork.{drawn_before_row}
+use Rattle.ssd_formats.specs.GeneratedWork.{drawn_before_row}
 use Rattle.ssd_geo.specs.Noise.{state_after}
-use Rattle.ssd_gen.specs.Writes.{Wrote}
+use Rattle.ssd_io.specs.Writes.{Wrote}
 use Rattle.ssd_gen.proofs.WorkParts.{row_piece}
 use Rattle.ssd_gen.proofs.matrix.put_matrix.Given as goal
 

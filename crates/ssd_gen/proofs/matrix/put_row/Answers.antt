@@ -3,12 +3,12 @@ use Rattle.std.specs.Int.{cast_signed, cast_unsigned, w16}
 use Rattle.std.specs.Int.RustNames.{FitsSigned}
 use Rattle.std.specs.List.{range_with_len}
 use Rattle.std.specs.Prelude.{flat_map}
-use Rattle.ssd_geo.specs.Fields.{bytes_of_signed}
+use Rattle.ssd_formats.specs.Fields.{bytes_of_signed}
 use Rattle.ssd_geo.specs.Noise.{state_after}
 use Rattle.ssd_gen.specs.RowWords.{drawn_at, entry_bytes, row_bytes, words_before}
 use Rattle.ssd_gen.proofs.Ranges.{numbers_at, numbers_behind, numbers_more}
 use Rattle.ssd_gen.proofs.RowSteps.{entry_next, state_next, words_all, words_more, words_none}
-use Rattle.ssd_gen.proofs.WriteSteps.{fails_in, none_wrote, writes_all, wrote, wrote_then}
+use Rattle.ssd_io.proofs.WriteSteps.{fails_in, none_wrote, writes_all, wrote, wrote_then}
 use Rattle.ssd_gen.proofs.matrix.put_row.Goals as goal
 
 pub loop-column-init : goal.loop-column-init

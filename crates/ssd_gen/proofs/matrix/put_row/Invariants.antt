@@ -3,7 +3,7 @@ use Rattle.std.specs.List.{range_with_len}
 use Rattle.std.specs.Prelude.{flat_map}
 use Rattle.ssd_geo.specs.Noise.{state_after}
 use Rattle.ssd_gen.specs.RowWords.{entry_bytes, words_before}
-use Rattle.ssd_gen.specs.Writes.{Wrote}
+use Rattle.ssd_io.specs.Writes.{Wrote}
 use Rattle.ssd_gen.proofs.matrix.put_row.Given as goal
 
 abbrev pub invariant-loop-column : goal.invariant-loop-column

@@ -1,11 +1,11 @@
 use Rattle.std.proofs.Common.{arith, ◌≡◌, ◌++◌, List, ℕ, ap, sym, ◌∙◌, refl}
 use Rattle.std.specs.List.{range_with_len}
 use Rattle.std.specs.Prelude.{flat_map}
-use Rattle.ssd_geo.specs.GeneratedWork.{generated_line_of}
+use Rattle.ssd_formats.specs.GeneratedWork.{generated_line_of}
 use Rattle.ssd_gen.specs.TraceParts.{call_text, calls_text}
 use Rattle.ssd_gen.proofs.Ranges.{numbers_at, numbers_behind, numbers_more}
 use Rattle.ssd_gen.proofs.RowSteps.{state_next, word_next}
-use Rattle.ssd_gen.proofs.WriteSteps.{fails_in, none_wrote, writes_all, wrote, wrote_then}
+use Rattle.ssd_io.proofs.WriteSteps.{fails_in, none_wrote, writes_all, wrote, wrote_then}
 use Rattle.ssd_gen.proofs.trace.put_calls.Goals as goal
 
 pub loop-call-init : goal.loop-call-init

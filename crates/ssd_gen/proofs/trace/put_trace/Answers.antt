@@ -1,5 +1,5 @@
 use Rattle.ssd_gen.specs.TraceParts.{calls_text, trace_text}
-use Rattle.ssd_gen.proofs.WriteSteps.{fails_early, writes_then, wrote}
+use Rattle.ssd_io.proofs.WriteSteps.{fails_early, writes_then, wrote}
 use Rattle.ssd_gen.proofs.trace.put_trace.Goals as goal
 
 pub returns-in_err-put : goal.returns-in_err-put

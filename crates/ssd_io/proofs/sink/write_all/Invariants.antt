@@ -6,7 +6,7 @@ abbrev pub invariant-loop-at : goal.invariant-loop-at
 invariant-loop-at g l = record {
   within : l.at ≤ length l.bytes;
   appended : Appends (g.O.Sink.written l.initial.out) (g.O.Sink.written l.out) (take l.at l.bytes);
-  never_fell : g.O.Sink.faults l.initial.out ≤ g.O.Sink.faults l.out;
+  stays : g.O.Sink.faults l.out ≡ g.O.Sink.faults l.initial.out;
   untouched : l.at ≡ 0 → l.out ≡ l.initial.out;
 }
 

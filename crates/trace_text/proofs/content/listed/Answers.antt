@@ -1,7 +1,7 @@
 use Rattle.std.proofs.Common.{◌≡◌, ◌+◌, ◌*◌, ◌++◌, ◌∷◌, [], length, drop, Some, None, Err, arith, rules, ap, get_or, length-append, sym, ◌∙◌, ◌≤◌}
 use Rattle.std.specs.Prelude.{ok_or, option_map}
-use Rattle.ssd_geo.specs.InputFaults.{bytes}
-use Rattle.ssd_geo.specs.Numbers.{bytes_of_hex}
+use Rattle.ssd_formats.specs.InputFaults.{bytes}
+use Rattle.ssd_formats.specs.Numbers.{bytes_of_hex}
 use Rattle.ssd_geo.specs.declared.trace.Content.TheVariants.{Listed}
 use Rattle.trace_text.proofs.HexPairs.{all_are_read, long_lacks, odd_lacks, pair_is_read, pair_is_wrong}
 use Rattle.trace_text.proofs.content.listed.Goals as goal

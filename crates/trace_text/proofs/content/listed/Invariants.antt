@@ -1,6 +1,6 @@
 use Rattle.std.proofs.Common.{◌≡◌, ◌*◌, ◌++◌, length, drop}
 use Rattle.std.specs.Prelude.{option_map}
-use Rattle.ssd_geo.specs.Numbers.{bytes_of_hex}
+use Rattle.ssd_formats.specs.Numbers.{bytes_of_hex}
 use Rattle.trace_text.proofs.content.listed.Given as goal
 
 abbrev pub invariant-loop-i : goal.invariant-loop-i

@@ -1,5 +1,5 @@
 use Rattle.std.proofs.Common.{◌≡◌, ◌+◌, [], Ok, Err, sym, ap, ◌∙◌, subst, List, ℕ, arith, rules}
-use Rattle.ssd_geo.specs.ImageHead.{sizes_of}
+use Rattle.ssd_formats.specs.ImageHead.{sizes_of}
 use Rattle.trace_text.specs.BytesAhead.{lines_ahead}
 use Rattle.trace_text.specs.ReadLines.{line_of, pending}
 use Rattle.trace_text.proofs.Numbering.{calls_with_one}
@@ -34,7 +34,7 @@ reading-preserved g c =
           (next.0, calls_go_on (sizes_of c.args.shape.now) c.args.actors (c.reading.lines.number + 1) c.reading.lines.taken reader.number reader.taken c.reading.calls c.add_call.new.calls (line_of reader) _ _ _ i.1 next.1 one);
       numbered = calls_with_one (sizes_of c.args.shape.now) c.args.actors c.reading.calls (line_of reader) c.add_call.new.calls one c.reading.invariant.numbered;
       short = d.on.1;
-      never_fell = search rules;
+      stays = search rules;
     }
 
 pub returns-clause-read : goal.returns-clause-read

@@ -1,5 +1,5 @@
 use Rattle.std.proofs.Common.{◌+◌, ◌-◌, ◌≡◌, ◌∷◌, ap, ◌∙◌, length, take, drop, sym, arith, rules, take_all, length-drop}
-use Rattle.ssd_geo.specs.Lines.{is_space, words_in}
+use Rattle.ssd_formats.specs.Lines.{is_space, words_in}
 use Rattle.trace_text.proofs.Cuts.{cut_at_first}
 use Rattle.trace_text.proofs.words.cut_word.Goals as goal
 

@@ -1,7 +1,7 @@
 use Rattle.std.proofs.Common.{◌==◌, length, not, rules, tests}
 use Rattle.std.proofs.lemmas.Iterator.Search.{all_from_yields_List}
 use Rattle.std.proofs.lemmas.Iterator.Splits.{YieldsList-from_slice_split}
-use Rattle.ssd_geo.specs.Lines.{is_space}
+use Rattle.ssd_formats.specs.Lines.{is_space}
 use Rattle.trace_text.proofs.words.has_no_empty_word.Goals as goal
 
 pub returns : goal.returns

@@ -1,5 +1,5 @@
 use Rattle.std.proofs.Common.{◌≡◌, ◌-◌, [], length}
-use Rattle.ssd_geo.specs.HistoryText.{entries_of_lines}
+use Rattle.ssd_formats.specs.HistoryText.{entries_of_lines}
 use Rattle.history_text.proofs.read.entries.read_entries.Given as goal
 
 abbrev pub invariant-loop-position : goal.invariant-loop-position

@@ -1,5 +1,5 @@
 use Rattle.std.proofs.Common.{◌≡◌, ◌-◌, [], length}
-use Rattle.ssd_geo.specs.HistoryText.{histories_of_lines}
+use Rattle.ssd_formats.specs.HistoryText.{histories_of_lines}
 use Rattle.history_text.proofs.read.histories.read_channels.Given as goal
 
 abbrev pub invariant-loop-channel : goal.invariant-loop-channel

@@ -1,5 +1,5 @@
 use Rattle.std.proofs.Common.{rules, ◌≡◌, ◌∙◌, true}
-use Rattle.ssd_geo.specs.Numbers.{is_number}
+use Rattle.ssd_formats.specs.Numbers.{is_number}
 use Rattle.history_text.proofs.NumberWords.{number_is_utf8, parsed_number}
 use Rattle.history_text.proofs.read.numbers.number_64.Goals as goal
 

@@ -1,6 +1,6 @@
 use Rattle.std.proofs.Common.{◌≡◌, ◌∷◌, [], ℕ, ◌<◌, sym, ap, ◌∙◌, refl, length, arith, get_or}
 use Rattle.std.specs.Prelude.{count_by, replicate}
-use Rattle.ssd_geo.specs.TraceText.{is_of_actor, is_read_call, most_calls}
+use Rattle.ssd_formats.specs.TraceText.{is_of_actor, is_read_call, most_calls}
 use Rattle.trace_text.proofs.CallCounts.{zeros}
 use Rattle.trace_text.proofs.call_list.CallList.new.Goals as goal
 

@@ -1,6 +1,6 @@
 use Rattle.std.proofs.Common.{◌-◌, ap, ◌∙◌, length, drop, arith, rules, take_all, length-drop}
 use Rattle.std.specs.List.{position}
-use Rattle.ssd_geo.specs.Lines.{is_line_feed}
+use Rattle.ssd_formats.specs.Lines.{is_line_feed}
 use Rattle.trace_text.specs.Windows.{held}
 use Rattle.trace_text.proofs.window.Window.feed_from.Goals as goal
 

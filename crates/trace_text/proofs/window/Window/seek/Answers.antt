@@ -1,6 +1,6 @@
 use Rattle.std.proofs.Common.{◌≡◌, ◌+◌, ◌≤◌, List, ℕ, Some, None, ap, sym, ◌∙◌, subst, length, take, drop, get_or, true, false, arith, rules, take_all, length-take-le}
 use Rattle.std.specs.List.{position}
-use Rattle.ssd_geo.specs.Lines.{is_line_feed}
+use Rattle.ssd_formats.specs.Lines.{is_line_feed}
 use Rattle.trace_text.specs.BytesAhead.{HasNoFeed}
 use Rattle.trace_text.specs.Windows.{held}
 use Rattle.trace_text.proofs.Feeds.{first_behind, none_behind}
@@ -48,5 +48,5 @@ reading-preserved g c =
       few = omega arith;
       none = subst HasNoFeed (sym front) none;
       ahead = kept_on _ _ _ _ _ _ c.reading.invariant.ahead f.ahead;
-      never_fell = search rules;
+      stays = search rules;
     }

@@ -9,7 +9,7 @@ invariant-reading g l = record {
   few : l.looked ≤ 40001;
   none : HasNoFeed (take l.looked (held l.self));
   ahead : KeepsAhead (held l.initial.self) (held l.self) (g.S.Source.left l.initial.input) (g.S.Source.left l.input);
-  never_fell : g.S.Source.faults l.initial.input ≤ g.S.Source.faults l.input;
+  stays : g.S.Source.faults l.input ≡ g.S.Source.faults l.initial.input;
 }
 
 abbrev pub decreases-reading : goal.decreases-reading

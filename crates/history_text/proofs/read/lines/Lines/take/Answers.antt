@@ -1,5 +1,5 @@
 use Rattle.std.proofs.Common.{◌+◌, ◌∙◌, ap, sym}
-use Rattle.ssd_geo.specs.HistoryText.{Printed}
+use Rattle.ssd_formats.specs.HistoryText.{Printed}
 use Rattle.history_text.proofs.LineCuts.{line_before}
 use Rattle.history_text.proofs.read.lines.Lines.take.Goals as goal
 
