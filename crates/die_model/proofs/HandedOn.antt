@@ -1,9 +1,5 @@
 -- What a die did stays what it did, whatever its counts of faults are said to be.
-use Rattle.std.proofs.Common.{◌≡◌, ℕ, Bool, true, false, Result, List, ap, sym, ◌∙◌}
-use Rattle.std.specs.Bool.{IsTrue, IsFalse, ◌==◌}
-use Rattle.std.specs.List.{list_any}
-use Rattle.ssd_geo.specs.Faults.{count_after}
-use Rattle.die_model.specs.Listed.{is_next_listed}
+use Rattle.std.proofs.Common.{ℕ, Result, List}
 use Rattle.std.proofs.lemmas.Option.{IfSome_then}
 use Rattle.std.proofs.lemmas.Result.{IfOk-weaker}
 use Rattle.std.specs.Result.{IfOk}
@@ -23,12 +19,14 @@ outcome_recounted : (outcome : Outcome) (new : DieState) (status : ℕ) (out : L
 outcome_recounted outcome new status out work load h = record {
   told_are = h.told_are;
   read_level_is = h.read_level_is;
+  kept_status_is = h.kept_status_is;
   status_is = h.status_is;
   answer_is = h.answer_is;
 }
 
 -- what a die ran it ran, also with other counts
-pub runs_recounted : {E : Type 0} (old new : DieState) (cycles : List Cycle) (result : Result ℕ E) (out : List ℕ) (w l w' l' : ℕ) →
+pub runs_recounted : {E : Type 0} (old new : DieState) (cycles : List Cycle) (result : Result ℕ E) (out : List ℕ)
+    (w l w' l' : ℕ) →
     IfOk result (λ status. Runs old new cycles status out) →
     IfOk result (λ status. Runs (recounted old w l) (recounted new w' l') cycles status out)
 runs_recounted old new cycles result out w l w' l' h =
@@ -36,21 +34,7 @@ runs_recounted old new cycles result out w l w' l' h =
     (λ status ran. IfSome_then old.plan ran
     (λ plan told. IfSome_then old.told told
     (λ blocks said. IfOk-weaker (operation_of cycles) _ _
-    (λ op done. outcome_recounted (outcome_of plan blocks old.read_level op (bytes_of_op op cycles)) new status out w' l' done)
+    (λ op done. outcome_recounted (outcome_of plan blocks old.read_level old.last_status op (bytes_of_op op cycles))
+    new status out w' l' done)
     said)))
     h
-
--- the test of whether a call is listed
-pub listed_test : (listed held now_listed : List ℕ) (number before now_before : ℕ) (answer : Bool) →
-    answer ≡ list_any (λ n. n == number) held → held ≡ listed → number ≡ count_after before 1 → listed ≡ now_listed → before ≡ now_before →
-    answer ≡ is_next_listed now_listed now_before
-listed_test listed held now_listed number before now_before answer is same number_is listed_same before_same =
-    is ∙ ap (λ (n : ℕ). list_any (λ m. m == n) held) (number_is ∙ ap (λ (n : ℕ). count_after n 1) before_same)
-    ∙ ap (λ (ns : List ℕ). is_next_listed ns now_before) (same ∙ listed_same)
-
--- a test isn't both
-pub not_both : {P : Type 0} (b answer : Bool) → answer ≡ b → answer ≡ false → IsTrue b → P
-not_both b answer same fails holds = absurd (let clash : true ≡ false = sym holds ∙ sym same ∙ fails in cc)
-
-pub not_neither : {P : Type 0} (b answer : Bool) → answer ≡ b → answer ≡ true → IsFalse b → P
-not_neither b answer same holds fails = absurd (let clash : true ≡ false = sym holds ∙ same ∙ fails in cc)

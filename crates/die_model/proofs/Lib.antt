@@ -1,3 +1,4 @@
+pub mod AgedLemmas
 pub mod HandedOn
 pub mod KeptLemmas
 pub mod WordLemmas

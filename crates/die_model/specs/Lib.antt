@@ -1,4 +1,5 @@
 pub mod Listed
+pub mod ListedCalls
 pub mod SimState
 pub mod Simulated
 pub mod Stored

@@ -1,27 +1,29 @@
--- What do contracts see of a die that fails at listed calls, and which of its calls fail?
-use Rattle.std.specs.Prelude.{ℕ, ◌==◌, Bool, List}
-use Rattle.std.specs.List.{list_any}
+-- What do contracts see of a die that fails at listed calls, and what becomes of it in each?
+use Rattle.std.specs.Prelude.{◌≡◌}
 use Rattle.ssd_geo.specs.Faults.{count_after}
 use Rattle.onfi_cmd.specs.DieState.{DieState}
+use Rattle.die_model.specs.ListedCalls.{Calls, is_next_listed, calls_after}
 
--- the die in it, the listed calls of each kind, how many calls of each kind there were, and how many of them failed
--- by the lists
+-- the die in it, the calls of `run`, and those of `mount`, `load_block`, `load_page` and `levels` together
 pub record Listed (D : Type 0) : Type 0 where
   pub inner : D
-  pub calls : List ℕ
-  pub loads : List ℕ
-  pub runs : ℕ
-  pub other_calls : ℕ
-  pub failed_runs : ℕ
-  pub failed_loads : ℕ
+  pub runs : Calls
+  pub loads : Calls
 
--- whether the next call of a kind is listed: they are counted from 1, and the count stays at its greatest value
-abbrev pub is_next_listed : List ℕ → ℕ → Bool
-is_next_listed numbers before = list_any (λ number. number == count_after before 1) numbers
-
--- what contracts see of the die: the one in it, whose counts rose by what failed by the lists
-abbrev pub listed_state : DieState → ℕ → ℕ → DieState
-listed_state inner failed_runs failed_loads = record inner {
-  work_count = count_after inner.work_count failed_runs;
-  load_count = count_after inner.load_count failed_loads;
+-- what contracts see of the die: what they see of the one in it, with the counts higher by what failed by the lists
+abbrev pub listed_state : {D : Type 0} → (D → DieState) → Listed D → DieState
+listed_state state die = let inner : DieState = state die.inner in record inner {
+  work_count = count_after inner.work_count die.runs.faults;
+  load_count = count_after inner.load_count die.loads.faults;
 }
+
+-- a call of `run` was counted, as one that fails where its number is listed, and beside the count only the die in it
+-- may be another
+abbrev pub CountsRun : {D : Type 0} → Listed D → Listed D → Type 0
+CountsRun old new =
+    new ≡ record old { inner = new.inner; runs = calls_after old.runs (is_next_listed old.runs) }
+
+-- the same of the calls that are counted together
+abbrev pub CountsLoad : {D : Type 0} → Listed D → Listed D → Type 0
+CountsLoad old new =
+    new ≡ record old { inner = new.inner; loads = calls_after old.loads (is_next_listed old.loads) }

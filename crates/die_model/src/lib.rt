@@ -2,6 +2,7 @@
 //! It knows no channel, no superblock and no page map.
 #![tactic(auto)]
 
+mod listed_calls;
 mod listed_faults;
 mod mounted;
 mod sim_die;

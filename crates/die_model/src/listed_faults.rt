@@ -1,10 +1,10 @@
-ghost use Rattle.std.specs.Prelude.{◌≡◌, ◌==◌, ◌^◌, ◌<◌, ◌⊎◌, IfOk, IsErr, IsFalse, IsTrue, OnOk, length};
-ghost use Rattle.ssd_geo.specs.Faults.{count_after};
+ghost use Rattle.std.specs.Prelude.{◌≡◌, ◌^◌, ◌<◌, ◌⊎◌, IfOk, IsErr, IsFalse, IsTrue, OnErr, OnOk, length};
 ghost use Rattle.onfi_cmd.specs.DieCalls.{CanRun, HasNow, IsBlock, IsLoadCall, IsMountCall, IsNextPage, IsPage, IsPlan, IsWholePage, IsWorkCall, KeepsCells, Runs, WhereTold};
-ghost use Rattle.onfi_cmd.specs.DieState.{levels_of_page, status_failed, status_passed, with_erases, with_page};
-ghost use Rattle.std.specs.List.{list_any};
-ghost use Rattle.die_model.specs.Listed.{is_next_listed, listed_state};
+ghost use Rattle.onfi_cmd.specs.DieState.{levels_of_page, status_failed, status_passed, with_aged, with_erases, with_page};
+ghost use Rattle.die_model.specs.Listed.{CountsLoad, CountsRun, listed_state};
+ghost use Rattle.die_model.specs.ListedCalls.{is_next_listed, no_calls};
 
+use crate::listed_calls::ListedCalls;
 use onfi_cmd::{Cycle, Die, DieFailed, DiePlan, DieStop};
 use std::alloc::Global;
 use std::marker::Model;
@@ -14,13 +14,9 @@ use std::marker::Model;
 #[derive(Drop)]
 pub struct ListedFaults<D: Die> {
     inner: D,
-    calls: Vec<u64>,
-    loads: Vec<u64>,
-    // How many calls of each kind there were, and how many of them failed by the lists.
-    runs: u64,
-    other_calls: u64,
-    failed_runs: u64,
-    failed_loads: u64,
+    runs: ListedCalls,
+    // The calls of `mount`, `load_block`, `load_page` and `levels`.
+    loads: ListedCalls,
 }
 
 impl<D: Die> Model for ListedFaults<D> {
@@ -28,38 +24,18 @@ impl<D: Die> Model for ListedFaults<D> {
 
     ghost Value = { Listed D };
 
-    ghost view = { λ d. record {
-      inner = d.inner;
-      calls = d.calls.items;
-      loads = d.loads.items;
-      runs = d.runs;
-      other_calls = d.other_calls;
-      failed_runs = d.failed_runs;
-      failed_loads = d.failed_loads;
-    } };
+    ghost view = { λ d. record { inner = d.inner; runs = d.runs; loads = d.loads } };
 }
 
 impl<D: Die> ListedFaults<D> {
     /// A die that fails these calls of `run`, and these of the other calls that can fail but `age`.
     pub fn new(inner: D, calls: Vec<u64>, loads: Vec<u64>) -> ListedFaults<D>
-        ensures { result ≡ record {
-          inner = inner;
-          calls = calls.items;
-          loads = loads.items;
-          runs = 0;
-          other_calls = 0;
-          failed_runs = 0;
-          failed_loads = 0;
-        } }
+        ensures { result ≡ record { inner = inner; runs = no_calls calls.items; loads = no_calls loads.items } }
     {
         ListedFaults {
             inner,
-            calls,
-            loads,
-            runs: 0,
-            other_calls: 0,
-            failed_runs: 0,
-            failed_loads: 0,
+            runs: ListedCalls::new(calls),
+            loads: ListedCalls::new(loads),
         }
     }
 
@@ -71,69 +47,55 @@ impl<D: Die> ListedFaults<D> {
     }
 }
 
+// Each call says what a die's call says, then how it is counted. A listed one fails and leaves the die in it as it is;
+// one that isn't listed is a call of that die.
 impl<D: Die> Die for ListedFaults<D> {
-    ghost state = { λ die. listed_state (D.state die.inner) die.failed_runs die.failed_loads };
+    ghost state = { listed_state D.state };
 
     fn mount(&mut self, alloc: Global, plan: &DiePlan) -> Result<(), DieStop>
         requires { IsPlan plan.now }
-        ensures call { IsMountCall (listed_state (D.state self.old.inner) self.old.failed_runs self.old.failed_loads)
-            (listed_state (D.state self.new.inner) self.new.failed_runs self.new.failed_loads) plan.now result }
-
-        // A listed call fails, and leaves the die in it as it is.
-        ensures listed { IsTrue (is_next_listed self.old.loads self.old.other_calls) →
-            IsErr result × (self.new.inner ≡ self.old.inner) × (self.new.failed_loads ≡ count_after self.old.failed_loads 1) }
-        ensures others { IsFalse (is_next_listed self.old.loads self.old.other_calls) → self.new.failed_loads ≡ self.old.failed_loads }
-        ensures counted { self.new.other_calls ≡ count_after self.old.other_calls 1 }
+        ensures call { IsMountCall (listed_state D.state self.old) (listed_state D.state self.new) plan.now result }
+        ensures counted { CountsLoad self.old self.new }
+        ensures listed { IsTrue (is_next_listed self.old.loads) →
+            (result ≡ Err DieStop.Failed) × (self.new.inner ≡ self.old.inner) }
+        ensures others { IsFalse (is_next_listed self.old.loads) →
+            IsMountCall (D.state self.old.inner) (D.state self.new.inner) plan.now result }
     {
-        self.other_calls = self.other_calls.saturating_add(1);
-        if is_listed(&self.loads, self.other_calls) {
-            self.failed_loads = self.failed_loads.saturating_add(1);
+        if self.loads.fails_next() {
             return Err(DieStop::Failed);
         }
         self.inner.mount(alloc, plan)
     }
 
     fn load_block(&mut self, sb: u16, erases: u32) -> Result<(), DieFailed>
-        requires { IsBlock (listed_state (D.state self.old.inner) self.old.failed_runs self.old.failed_loads) sb }
-        ensures call { IsLoadCall (listed_state (D.state self.old.inner) self.old.failed_runs self.old.failed_loads)
-            (listed_state (D.state self.new.inner) self.new.failed_runs self.new.failed_loads) result }
-        ensures ok { OnOk result (WhereTold (listed_state (D.state self.old.inner) self.old.failed_runs self.old.failed_loads) (λ plan blocks.
-            HasNow (listed_state (D.state self.old.inner) self.old.failed_runs self.old.failed_loads)
-            (listed_state (D.state self.new.inner) self.new.failed_runs self.new.failed_loads) (with_erases blocks sb erases))) }
-
-        // A listed call fails, and leaves the die in it as it is.
-        ensures listed { IsTrue (is_next_listed self.old.loads self.old.other_calls) →
-            IsErr result × (self.new.inner ≡ self.old.inner) × (self.new.failed_loads ≡ count_after self.old.failed_loads 1) }
-        ensures others { IsFalse (is_next_listed self.old.loads self.old.other_calls) → self.new.failed_loads ≡ self.old.failed_loads }
-        ensures counted { self.new.other_calls ≡ count_after self.old.other_calls 1 }
+        requires { IsBlock (listed_state D.state self.old) sb }
+        ensures call { IsLoadCall (listed_state D.state self.old) (listed_state D.state self.new) result }
+        ensures ok { OnOk result (WhereTold (listed_state D.state self.old) (λ plan blocks.
+            HasNow (listed_state D.state self.old) (listed_state D.state self.new) (with_erases blocks sb erases))) }
+        ensures counted { CountsLoad self.old self.new }
+        ensures listed { IsTrue (is_next_listed self.old.loads) → IsErr result × (self.new.inner ≡ self.old.inner) }
+        ensures others { IsFalse (is_next_listed self.old.loads) →
+            IsLoadCall (D.state self.old.inner) (D.state self.new.inner) result }
     {
-        self.other_calls = self.other_calls.saturating_add(1);
-        if is_listed(&self.loads, self.other_calls) {
-            self.failed_loads = self.failed_loads.saturating_add(1);
+        if self.loads.fails_next() {
             return Err(DieFailed);
         }
         self.inner.load_block(sb, erases)
     }
 
     fn load_page(&mut self, sb: u16, page: u16, levels: &[i16]) -> Result<(), DieFailed>
-        requires place { IsPage (listed_state (D.state self.old.inner) self.old.failed_runs self.old.failed_loads) sb page }
-        requires next { IsNextPage (listed_state (D.state self.old.inner) self.old.failed_runs self.old.failed_loads).told sb page }
-        requires cells { IsWholePage (listed_state (D.state self.old.inner) self.old.failed_runs self.old.failed_loads) (length levels.now) }
-        ensures call { IsLoadCall (listed_state (D.state self.old.inner) self.old.failed_runs self.old.failed_loads)
-            (listed_state (D.state self.new.inner) self.new.failed_runs self.new.failed_loads) result }
-        ensures ok { OnOk result (WhereTold (listed_state (D.state self.old.inner) self.old.failed_runs self.old.failed_loads) (λ plan blocks.
-            HasNow (listed_state (D.state self.old.inner) self.old.failed_runs self.old.failed_loads)
-            (listed_state (D.state self.new.inner) self.new.failed_runs self.new.failed_loads) (with_page blocks sb levels.now))) }
-
-        // A listed call fails, and leaves the die in it as it is.
-        ensures listed { IsTrue (is_next_listed self.old.loads self.old.other_calls) →
-            IsErr result × (self.new.inner ≡ self.old.inner) × (self.new.failed_loads ≡ count_after self.old.failed_loads 1) }
-        ensures others { IsFalse (is_next_listed self.old.loads self.old.other_calls) → self.new.failed_loads ≡ self.old.failed_loads }
-        ensures counted { self.new.other_calls ≡ count_after self.old.other_calls 1 }
+        requires place { IsPage (listed_state D.state self.old) sb page }
+        requires next { IsNextPage (listed_state D.state self.old).told sb page }
+        requires cells { IsWholePage (listed_state D.state self.old) (length levels.now) }
+        ensures call { IsLoadCall (listed_state D.state self.old) (listed_state D.state self.new) result }
+        ensures ok { OnOk result (WhereTold (listed_state D.state self.old) (λ plan blocks.
+            HasNow (listed_state D.state self.old) (listed_state D.state self.new) (with_page blocks sb levels.now))) }
+        ensures counted { CountsLoad self.old self.new }
+        ensures listed { IsTrue (is_next_listed self.old.loads) → IsErr result × (self.new.inner ≡ self.old.inner) }
+        ensures others { IsFalse (is_next_listed self.old.loads) →
+            IsLoadCall (D.state self.old.inner) (D.state self.new.inner) result }
     {
-        self.other_calls = self.other_calls.saturating_add(1);
-        if is_listed(&self.loads, self.other_calls) {
-            self.failed_loads = self.failed_loads.saturating_add(1);
+        if self.loads.fails_next() {
             return Err(DieFailed);
         }
         self.inner.load_page(sb, page, levels)
@@ -141,52 +103,50 @@ impl<D: Die> Die for ListedFaults<D> {
 
     fn run(&mut self, cycles: &[Cycle], out: &mut [u8]) -> Result<u8, DieFailed>
         requires few { length cycles.now < 2 ^ 32 }
-        requires can { CanRun (listed_state (D.state self.old.inner) self.old.failed_runs self.old.failed_loads)
-            cycles.now (length out.old) }
-        ensures call { IsWorkCall (listed_state (D.state self.old.inner) self.old.failed_runs self.old.failed_loads)
-            (listed_state (D.state self.new.inner) self.new.failed_runs self.new.failed_loads) result }
+        requires can { CanRun (listed_state D.state self.old) cycles.now (length out.old) }
+        ensures call { IsWorkCall (listed_state D.state self.old) (listed_state D.state self.new) result }
+        ensures out { OnErr result (out.new ≡ out.old) }
         ensures status { IfOk result (λ status. (status ≡ status_passed) ⊎ (status ≡ status_failed)) }
-        ensures ok { IfOk result (λ status. Runs (listed_state (D.state self.old.inner) self.old.failed_runs self.old.failed_loads)
-            (listed_state (D.state self.new.inner) self.new.failed_runs self.new.failed_loads) cycles.now status out.new) }
-
-        // A listed call fails, and leaves the die in it as it is.
-        ensures listed { IsTrue (is_next_listed self.old.calls self.old.runs) →
-            IsErr result × (self.new.inner ≡ self.old.inner) × (self.new.failed_runs ≡ count_after self.old.failed_runs 1) }
-        ensures others { IsFalse (is_next_listed self.old.calls self.old.runs) → self.new.failed_runs ≡ self.old.failed_runs }
-        ensures counted { self.new.runs ≡ count_after self.old.runs 1 }
+        ensures ok { IfOk result (λ status.
+            Runs (listed_state D.state self.old) (listed_state D.state self.new) cycles.now status out.new) }
+        ensures counted { CountsRun self.old self.new }
+        ensures listed { IsTrue (is_next_listed self.old.runs) → IsErr result × (self.new.inner ≡ self.old.inner) }
+        ensures others { IsFalse (is_next_listed self.old.runs) →
+            IsWorkCall (D.state self.old.inner) (D.state self.new.inner) result }
     {
-        self.runs = self.runs.saturating_add(1);
-        if is_listed(&self.calls, self.runs) {
-            self.failed_runs = self.failed_runs.saturating_add(1);
+        if self.runs.fails_next() {
             return Err(DieFailed);
         }
         self.inner.run(cycles, out)
     }
 
-    fn age(&mut self, sb: u16, amount: u16) -> Result<(), DieFailed> {
+    fn age(&mut self, sb: u16, amount: u16) -> Result<(), DieFailed>
+        requires { IsBlock (listed_state D.state self.old) sb }
+        ensures call { IsWorkCall (listed_state D.state self.old) (listed_state D.state self.new) result }
+        ensures ok { OnOk result (WhereTold (listed_state D.state self.old) (λ plan blocks.
+            HasNow (listed_state D.state self.old) (listed_state D.state self.new)
+            (with_aged plan.law.erased blocks sb amount))) }
+        ensures counted { self.new ≡ record self.old { inner = self.new.inner } }
+        ensures others { IsWorkCall (D.state self.old.inner) (D.state self.new.inner) result }
+    {
         self.inner.age(sb, amount)
     }
 
     fn levels(&mut self, sb: u16, page: u16, out: &mut [i16]) -> Result<(), DieFailed>
-        requires place { IsPage (listed_state (D.state self.old.inner) self.old.failed_runs self.old.failed_loads) sb page }
-        requires cells { IsWholePage (listed_state (D.state self.old.inner) self.old.failed_runs self.old.failed_loads) (length out.old) }
-        ensures call { IsLoadCall (listed_state (D.state self.old.inner) self.old.failed_runs self.old.failed_loads)
-            (listed_state (D.state self.new.inner) self.new.failed_runs self.new.failed_loads) result }
-        ensures same { OnOk result (WhereTold (listed_state (D.state self.old.inner) self.old.failed_runs self.old.failed_loads) (λ plan blocks.
-            KeepsCells (listed_state (D.state self.old.inner) self.old.failed_runs self.old.failed_loads)
-            (listed_state (D.state self.new.inner) self.new.failed_runs self.new.failed_loads))) }
-        ensures ok { OnOk result (WhereTold (listed_state (D.state self.old.inner) self.old.failed_runs self.old.failed_loads) (λ plan blocks.
+        requires place { IsPage (listed_state D.state self.old) sb page }
+        requires cells { IsWholePage (listed_state D.state self.old) (length out.old) }
+        ensures call { IsLoadCall (listed_state D.state self.old) (listed_state D.state self.new) result }
+        ensures out { OnErr result (out.new ≡ out.old) }
+        ensures same { OnOk result (WhereTold (listed_state D.state self.old) (λ plan blocks.
+            KeepsCells (listed_state D.state self.old) (listed_state D.state self.new))) }
+        ensures ok { OnOk result (WhereTold (listed_state D.state self.old) (λ plan blocks.
             out.new ≡ levels_of_page plan blocks sb page)) }
-
-        // A listed call fails, and leaves the die in it as it is.
-        ensures listed { IsTrue (is_next_listed self.old.loads self.old.other_calls) →
-            IsErr result × (self.new.inner ≡ self.old.inner) × (self.new.failed_loads ≡ count_after self.old.failed_loads 1) }
-        ensures others { IsFalse (is_next_listed self.old.loads self.old.other_calls) → self.new.failed_loads ≡ self.old.failed_loads }
-        ensures counted { self.new.other_calls ≡ count_after self.old.other_calls 1 }
+        ensures counted { CountsLoad self.old self.new }
+        ensures listed { IsTrue (is_next_listed self.old.loads) → IsErr result × (self.new.inner ≡ self.old.inner) }
+        ensures others { IsFalse (is_next_listed self.old.loads) →
+            IsLoadCall (D.state self.old.inner) (D.state self.new.inner) result }
     {
-        self.other_calls = self.other_calls.saturating_add(1);
-        if is_listed(&self.loads, self.other_calls) {
-            self.failed_loads = self.failed_loads.saturating_add(1);
+        if self.loads.fails_next() {
             return Err(DieFailed);
         }
         self.inner.levels(sb, page, out)
@@ -195,10 +155,4 @@ impl<D: Die> Die for ListedFaults<D> {
     fn programmed(&self, sb: u16) -> u16 {
         self.inner.programmed(sb)
     }
-}
-
-fn is_listed(numbers: &[u64], number: u64) -> bool
-    ensures { result ≡ list_any (λ listed. listed == number) numbers.now }
-{
-    numbers.iter().any(|listed| *listed == number)
 }

@@ -1,10 +1,10 @@
-ghost use Rattle.std.specs.Prelude.{◌≡◌, ◌+◌, ◌*◌, ◌-◌, ◌^◌, ◌<◌, ◌⊎◌, IfOk, IsOkAnd, Some, [], drop, length, map, pos, take, vec_len};
+ghost use Rattle.std.specs.Prelude.{◌≡◌, ◌+◌, ◌*◌, ◌-◌, ◌^◌, ◌<◌, ◌⊎◌, IfOk, IsOkAnd, Some, [], drop, false, length, map, pos, take, vec_len};
 ghost use Rattle.onfi_cmd.specs.Cycles.{bytes_of_op, value_of};
 ghost use Rattle.onfi_cmd.specs.DieCalls.{CanDo, HasOutcome, IsInShape, IsPlan};
 ghost use Rattle.onfi_cmd.specs.DieState.{blank_blocks, cells_at, cells_of_page, changes_unless_weak, levels_of_page, outcome_of, programmed_in, programmed_levels, status_failed, status_passed, with_erased, with_page};
 ghost use Rattle.onfi_cmd.specs.Reading.{operation_of};
 ghost use Rattle.ssd_geo.specs.Cells.{sensed};
-ghost use Rattle.die_model.specs.Simulated.{mounted_state};
+ghost use Rattle.die_model.specs.Simulated.{mounted_state, status_byte};
 
 use crate::store::Store;
 use crate::words::{data_into, fill_levels, is_weak_at, number_of, sense_erased};
@@ -24,6 +24,8 @@ pub(crate) struct Mounted {
     pub(crate) plan: DiePlan,
     pub(crate) store: Store,
     pub(crate) read_level: i16,
+    // Whether the last operation other than Read Status answered FAIL.
+    pub(crate) last_failed: bool,
     // The word of a program, put together from its cycles.
     pub(crate) word: Vec<u8>,
     ghost is_plan: { IsPlan plan },
@@ -37,8 +39,8 @@ impl Mounted {
     /// What a die holds once it is mounted: blank blocks, and all the memory that it will need.
     pub(crate) fn new(alloc: Global, plan: &DiePlan) -> Result<Mounted, Memory>
         requires { IsPlan plan.now }
-        ensures { IfOk result (λ m. mounted_state m.plan m.store.blocks m.read_level
-            ≡ mounted_state plan.now (blank_blocks plan.now) (pos 0)) }
+        ensures { IfOk result (λ m. mounted_state m.plan m.store.blocks m.read_level m.last_failed
+            ≡ mounted_state plan.now (blank_blocks plan.now) (pos 0) false) }
     {
         let plan = copied(alloc, plan)?;
         let word_bytes = plan.shape.word_bytes();
@@ -53,6 +55,7 @@ impl Mounted {
             plan,
             store,
             read_level: 0,
+            last_failed: false,
             word,
         })
     }
@@ -83,8 +86,8 @@ impl Mounted {
         }
     }
 
-    /// Programs the data bytes of these cycles into the next page of a block.
-    fn program(&mut self, sb: u16, page: u16, cycles: &[Cycle]) -> u8
+    /// Programs the data bytes of these cycles into the next page of a block, and tells whether that answers FAIL.
+    fn program(&mut self, sb: u16, page: u16, cycles: &[Cycle]) -> bool
         requires place { IsInShape self.old.plan sb page }
         requires next { page ≡ programmed_in self.old.store.blocks sb }
         requires cells { 8 * (length cycles.now - 7) ≡ cells_of_page self.old.plan }
@@ -92,57 +95,71 @@ impl Mounted {
             (changes_unless_weak self.old.plan self.old.store.blocks self.old.read_level sb
             (with_page self.old.store.blocks sb (programmed_levels self.old.plan self.old.store.blocks sb page
             (map value_of (take (length cycles.now - 7) (drop 6 cycles.now))))))
-            (mounted_state self.new.plan self.new.store.blocks self.new.read_level) result [] }
-        ensures status { (result ≡ status_passed) ⊎ (result ≡ status_failed) }
+            (mounted_state self.new.plan self.new.store.blocks self.new.read_level result) (status_byte result) [] }
         ensures plan { self.new.plan ≡ self.old.plan }
     {
         let erases = self.store.erases(sb);
         if is_weak_at(&self.plan, sb, erases) {
-            return FAILED;
+            return true;
         }
         data_into(cycles, &mut self.word);
         let place = number_of(&self.plan, sb, page);
         self.store.program(&self.plan.law, place, sb, &self.word);
-        PASSED
+        false
     }
 
-    /// Erases a block.
-    fn erase(&mut self, sb: u16) -> u8
+    /// Erases a block, and tells whether that answers FAIL.
+    fn erase(&mut self, sb: u16) -> bool
         requires block { sb < self.old.plan.shape.superblocks }
         requires count { (cells_at self.old.store.blocks sb).erases + 1 < 2 ^ 32 }
         ensures outcome { HasOutcome
             (changes_unless_weak self.old.plan self.old.store.blocks self.old.read_level sb
             (with_erased self.old.store.blocks sb))
-            (mounted_state self.new.plan self.new.store.blocks self.new.read_level) result [] }
-        ensures status { (result ≡ status_passed) ⊎ (result ≡ status_failed) }
+            (mounted_state self.new.plan self.new.store.blocks self.new.read_level result) (status_byte result) [] }
         ensures plan { self.new.plan ≡ self.old.plan }
     {
         if is_weak_at(&self.plan, sb, self.store.erases(sb)) {
-            return FAILED;
+            return true;
         }
         self.store.erase(sb);
-        PASSED
+        false
     }
 
-    /// Runs one whole operation.
+    /// Runs one whole operation, and answers its status byte.
     pub(crate) fn run(&mut self, cycles: &[Cycle], out: &mut [u8]) -> u8
         requires few { length cycles.now < 2 ^ 32 }
         requires can { IsOkAnd (operation_of cycles.now) (λ op.
             CanDo self.old.plan (Some self.old.store.blocks) op (bytes_of_op op cycles.now) (length out.old)) }
         ensures outcome { IfOk (operation_of cycles.now) (λ op. HasOutcome
-            (outcome_of self.old.plan self.old.store.blocks self.old.read_level op (bytes_of_op op cycles.now))
-            (mounted_state self.new.plan self.new.store.blocks self.new.read_level) result out.new) }
+            (outcome_of self.old.plan self.old.store.blocks self.old.read_level (status_byte self.old.last_failed)
+            op (bytes_of_op op cycles.now))
+            (mounted_state self.new.plan self.new.store.blocks self.new.read_level self.new.last_failed)
+            result out.new) }
         ensures status { (result ≡ status_passed) ⊎ (result ≡ status_failed) }
         ensures plan { self.new.plan ≡ self.old.plan }
     {
         let Ok(op) = op_of(cycles) else {
             unreachable!();
         };
+        self.last_failed = self.operate(op, cycles, out);
+        status_of(self.last_failed)
+    }
+
+    /// Does an operation, which these cycles spell, and tells whether its status has FAIL. That of Read Status is the
+    /// one before.
+    fn operate(&mut self, op: Op, cycles: &[Cycle], out: &mut [u8]) -> bool
+        requires { CanDo self.old.plan (Some self.old.store.blocks) op (bytes_of_op op cycles.now) (length out.old) }
+        ensures outcome { HasOutcome
+            (outcome_of self.old.plan self.old.store.blocks self.old.read_level (status_byte self.old.last_failed)
+            op (bytes_of_op op cycles.now))
+            (mounted_state self.new.plan self.new.store.blocks self.new.read_level result) (status_byte result) out.new }
+        ensures plan { self.new.plan ≡ self.old.plan }
+    {
         match op {
             Op::Read { row, .. } => {
                 let (sb, page) = row_place(&self.plan.shape, row);
                 self.sense(sb, page, out);
-                PASSED
+                false
             }
             Op::Program { row, .. } => {
                 let (sb, page) = row_place(&self.plan.shape, row);
@@ -153,23 +170,30 @@ impl Mounted {
                 self.erase(sb)
             }
             Op::Status => {
-                out[0] = PASSED;
-                PASSED
+                out[0] = status_of(self.last_failed);
+                self.last_failed
             }
             Op::Reset => {
                 self.read_level = 0;
-                PASSED
+                false
             }
             Op::SetFeatures { params, .. } => {
                 self.read_level = i16::from_le_bytes([params[0], params[1]]);
-                PASSED
+                false
             }
             Op::GetFeatures { .. } => {
                 out.copy_from_slice(&level_params(self.read_level));
-                PASSED
+                false
             }
         }
     }
+}
+
+fn status_of(failed: bool) -> u8
+    ensures byte { result ≡ status_byte failed }
+    ensures either { (result ≡ status_passed) ⊎ (result ≡ status_failed) }
+{
+    if failed { FAILED } else { PASSED }
 }
 
 fn copied(alloc: Global, plan: &DiePlan) -> Result<DiePlan, Memory>

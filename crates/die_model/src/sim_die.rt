@@ -1,7 +1,5 @@
-ghost use Rattle.std.specs.Prelude.{◌≡◌, IfOk, OnOk, pos};
-ghost use Rattle.onfi_cmd.specs.DieCalls.{IsMountCall};
-ghost use Rattle.onfi_cmd.specs.DieState.{blank_blocks};
-ghost use Rattle.die_model.specs.Simulated.{mounted_state, unmounted_state};
+ghost use Rattle.std.specs.Prelude.{◌≡◌};
+ghost use Rattle.die_model.specs.Simulated.{unmounted_state};
 
 use crate::mounted::Mounted;
 use onfi_cmd::{Cycle, Die, DieFailed, DiePlan, DieStop};

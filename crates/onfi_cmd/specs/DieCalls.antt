@@ -7,14 +7,14 @@ use Rattle.ssd_geo.specs.Cells.{IsCellLaw}
 use Rattle.ssd_geo.specs.Faults.{NeverFell, Rose, HasCause}
 use Rattle.onfi_cmd.specs.Addresses.{block_of_row, page_of_row, params_of_level, read_level_address}
 use Rattle.onfi_cmd.specs.Cycles.{bytes_of_op}
-use Rattle.onfi_cmd.specs.DieState.{BlockCells, DieState, blank_blocks, cells_at, programmed_in, cells_of_page, Outcome, outcome_of}
+use Rattle.onfi_cmd.specs.DieState.{BlockCells, DieState, blank_blocks, cells_at, programmed_in, cells_of_page, status_passed, Outcome, outcome_of}
 use Rattle.onfi_cmd.specs.Reading.{operation_of}
 use Rattle.onfi_cmd.specs.declared.cycle.Cycle.{Cycle}
 use Rattle.onfi_cmd.specs.declared.op.Op.{Op}
 use Rattle.onfi_cmd.specs.declared.op.Op.TheVariants.{Read, Program, Erase, Status, Reset, SetFeatures, GetFeatures}
 use Rattle.onfi_cmd.specs.declared.plan.DiePlan.{DiePlan}
 use Rattle.onfi_cmd.specs.declared.stop.DieStop.{DieStop}
-use Rattle.onfi_cmd.specs.declared.stop.DieStop.TheVariants.{Failed}
+use Rattle.onfi_cmd.specs.declared.stop.DieStop.TheVariants.{Failed, Memory}
 
 -- a plan names a die of its shape, and its law is in range
 pub record IsPlan (plan : DiePlan) : Type 0 where
@@ -82,17 +82,20 @@ CanRun state cycles room =
     IsMountedAnd state (λ plan.
     IsOkAnd (operation_of cycles) (λ op. CanDo plan state.told op (bytes_of_op op cycles) room))
 
--- levels, programmed pages, erase counts and read level stay
+-- levels, programmed pages, erase counts, read level and kept status stay
 pub record KeepsCells (old new : DieState) : Type 0 where
   pub told_stay : new.told ≡ old.told
   pub read_level_stays : new.read_level ≡ old.read_level
+  pub status_stays : new.last_status ≡ old.last_status
 
--- a call that counts its faults as work: what it keeps, and that it fails only where that count rose
+-- a call that counts its faults as work: that count rises where it fails, and only there, and all else of a die that
+-- failed stays
 pub record IsWorkCall {T E : Type 0} (old new : DieState) (result : Result T E) : Type 0 where
   pub plan_stays : new.plan ≡ old.plan
   pub still_tells : is_some new.told ≡ is_some old.told
   pub loads_stay : new.load_count ≡ old.load_count
   pub cause : HasCause old.work_count new.work_count result
+  pub passed : OnOk result (new.work_count ≡ old.work_count)
   pub err : OnErr result (KeepsCells old new)
 
 -- the same of a call that counts its faults as loads
@@ -101,7 +104,14 @@ pub record IsLoadCall {T E : Type 0} (old new : DieState) (result : Result T E) 
   pub still_tells : is_some new.told ≡ is_some old.told
   pub works_stay : new.work_count ≡ old.work_count
   pub cause : HasCause old.load_count new.load_count result
+  pub passed : OnOk result (new.load_count ≡ old.load_count)
   pub err : OnErr result (KeepsCells old new)
+
+-- a die is blank, as after a mount with this plan
+pub record IsBlank (plan : DiePlan) (state : DieState) : Type 0 where
+  pub told_are : state.told ≡ Some (blank_blocks plan)
+  pub read_level_is : state.read_level ≡ pos 0
+  pub status_is : state.last_status ≡ status_passed
 
 -- the same of a mount, which may also want memory, and which gives the die its plan
 pub record IsMountCall {T : Type 0} (old new : DieState) (plan : DiePlan) (result : Result T DieStop) : Type 0 where
@@ -109,19 +119,23 @@ pub record IsMountCall {T : Type 0} (old new : DieState) (plan : DiePlan) (resul
   pub works_stay : new.work_count ≡ old.work_count
   pub never_fell : NeverFell old.load_count new.load_count
   pub failed : IsErrOf result Failed → Rose old.load_count new.load_count
+  pub wanting : IsErrOf result Memory → new.load_count ≡ old.load_count
+  pub passed : OnOk result (new.load_count ≡ old.load_count)
   pub err : OnErr result ((new.plan ≡ old.plan) × KeepsCells old new)
   pub ok : OnOk result (new.plan ≡ Some plan)
-  pub blank : OnOk result (OnSome old.told ((new.told ≡ Some (blank_blocks plan)) × (new.read_level ≡ pos 0)))
+  pub blank : OnOk result (OnSome old.told (IsBlank plan new))
 
--- a die has these blocks now, and its read level as before
+-- a die has these blocks now, and its read level and kept status as before
 pub record HasNow (old new : DieState) (blocks : List BlockCells) : Type 0 where
   pub told_are : new.told ≡ Some blocks
   pub read_level_stays : new.read_level ≡ old.read_level
+  pub status_stays : new.last_status ≡ old.last_status
 
--- an operation ended as its outcome says
+-- an operation ended as its outcome says, and its status is kept
 pub record HasOutcome (outcome : Outcome) (new : DieState) (status : ℕ) (out : List ℕ) : Type 0 where
   pub told_are : new.told ≡ Some outcome.blocks
   pub read_level_is : new.read_level ≡ outcome.read_level
+  pub kept_status_is : new.last_status ≡ outcome.status
   pub status_is : status ≡ outcome.status
   pub answer_is : out ≡ outcome.answer
 
@@ -129,4 +143,4 @@ pub record HasOutcome (outcome : Outcome) (new : DieState) (status : ℕ) (out :
 abbrev pub Runs : DieState → DieState → List Cycle → ℕ → List ℕ → Type 0
 Runs old new cycles status out =
     WhereTold old (λ plan blocks. IfOk (operation_of cycles) (λ op.
-    HasOutcome (outcome_of plan blocks old.read_level op (bytes_of_op op cycles)) new status out))
+    HasOutcome (outcome_of plan blocks old.read_level old.last_status op (bytes_of_op op cycles)) new status out))

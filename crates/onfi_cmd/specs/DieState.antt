@@ -17,12 +17,13 @@ pub record BlockCells : Type 0 where
   pub pages : List (List ℤ)
   pub erases : ℕ
 
--- what contracts see of a die: the plan of its last mount, its blocks where they are told, the read level, and the
--- two counts of its faults
+-- what contracts see of a die: the plan of its last mount, its blocks where they are told, the read level, the status
+-- byte of its last operation other than Read Status, and the two counts of its faults
 pub record DieState : Type 0 where
   pub plan : Option DiePlan
   pub told : Option (List BlockCells)
   pub read_level : ℤ
+  pub last_status : ℕ
   pub work_count : ℕ
   pub load_count : ℕ
 
@@ -99,7 +100,7 @@ status_passed = 0xE0
 abbrev pub status_failed : ℕ
 status_failed = 0xE1
 
--- what one operation leaves and answers
+-- what one operation leaves and answers; its status is also the one that the die keeps
 pub record Outcome : Type 0 where
   pub blocks : List BlockCells
   pub read_level : ℤ
@@ -118,20 +119,22 @@ changes_unless_weak plan blocks level sb after =
     record { blocks = blocks; read_level = level; status = status_failed; answer = [] } else
     record { blocks = after; read_level = level; status = status_passed; answer = [] }
 
--- what an operation with these data bytes does to a die's blocks and read level, and what it answers
-abbrev pub outcome_of : DiePlan → List BlockCells → ℤ → Op → List ℕ → Outcome
-outcome_of plan blocks level (Read column row) bytes =
+-- what an operation with these data bytes does to a die with these blocks, read level and kept status, and what it
+-- answers
+abbrev pub outcome_of : DiePlan → List BlockCells → ℤ → ℕ → Op → List ℕ → Outcome
+outcome_of plan blocks level status (Read column row) bytes =
     let sb = block_of_row plan.shape.pages row in
     let page = page_of_row plan.shape.pages row in
     answers blocks level (sensed level (levels_of_page plan blocks sb page))
-outcome_of plan blocks level (Program column row) bytes =
+outcome_of plan blocks level status (Program column row) bytes =
     let sb = block_of_row plan.shape.pages row in
     let page = page_of_row plan.shape.pages row in
     changes_unless_weak plan blocks level sb (with_page blocks sb (programmed_levels plan blocks sb page bytes))
-outcome_of plan blocks level (Erase row) bytes =
+outcome_of plan blocks level status (Erase row) bytes =
     let sb = block_of_row plan.shape.pages row in
     changes_unless_weak plan blocks level sb (with_erased blocks sb)
-outcome_of plan blocks level Status bytes = answers blocks level (status_passed ∷ [])
-outcome_of plan blocks level Reset bytes = answers blocks (pos 0) []
-outcome_of plan blocks level (SetFeatures address params) bytes = answers blocks (level_of_params params) []
-outcome_of plan blocks level (GetFeatures address) bytes = answers blocks level (params_of_level level)
+outcome_of plan blocks level status Status bytes =
+    record { blocks = blocks; read_level = level; status = status; answer = status ∷ [] }
+outcome_of plan blocks level status Reset bytes = answers blocks (pos 0) []
+outcome_of plan blocks level status (SetFeatures address params) bytes = answers blocks (level_of_params params) []
+outcome_of plan blocks level status (GetFeatures address) bytes = answers blocks level (params_of_level level)

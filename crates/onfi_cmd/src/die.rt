@@ -1,4 +1,4 @@
-ghost use Rattle.std.specs.Prelude.{◌≡◌, ◌^◌, ◌<◌, ◌≤◌, ◌⊎◌, IfOk, IfSome, OnOk, length};
+ghost use Rattle.std.specs.Prelude.{◌≡◌, ◌^◌, ◌<◌, ◌≤◌, ◌⊎◌, IfOk, IfSome, OnErr, OnOk, length};
 ghost use Rattle.onfi_cmd.specs.DieCalls.{CanRun, HasNow, IsBlock, IsLoadCall, IsMountCall, IsMountedAnd, IsNextPage, IsPage, IsPlan, IsWholePage, IsWorkCall, KeepsCells, Runs, WhereTold};
 ghost use Rattle.onfi_cmd.specs.DieState.{DieState, levels_of_page, programmed_in, status_failed, status_passed, with_aged, with_erases, with_page};
 
@@ -37,6 +37,7 @@ pub trait Die: Drop {
         requires few { length cycles.now < 2 ^ 32 }
         requires can { CanRun (state self.old) cycles.now (length out.old) }
         ensures call { IsWorkCall (state self.old) (state self.new) result }
+        ensures out { OnErr result (out.new ≡ out.old) }
         ensures status { IfOk result (λ status. (status ≡ status_passed) ⊎ (status ≡ status_failed)) }
         ensures ok { IfOk result (λ status. Runs (state self.old) (state self.new) cycles.now status out.new) };
 
@@ -52,6 +53,7 @@ pub trait Die: Drop {
         requires place { IsPage (state self.old) sb page }
         requires cells { IsWholePage (state self.old) (length out.old) }
         ensures call { IsLoadCall (state self.old) (state self.new) result }
+        ensures out { OnErr result (out.new ≡ out.old) }
         ensures same { OnOk result (WhereTold (state self.old) (λ plan blocks. KeepsCells (state self.old) (state self.new))) }
         ensures ok { OnOk result (WhereTold (state self.old) (λ plan blocks. out.new ≡ levels_of_page plan blocks sb page)) };
 

@@ -9,7 +9,8 @@ ghost use Rattle.onfi_cmd.specs.declared.op.Op.{Op};
 /// are at most seven cycles beside them.
 pub fn operations_match_cycles()
     ensures there { (cycles : List Cycle) (op : Op) (bytes : List ℕ) → Spells cycles op bytes → operation_of cycles ≡ Ok op }
-    ensures back { (cycles : List Cycle) (op : Op) → IsOfBytes cycles → operation_of cycles ≡ Ok op → Spells cycles op (bytes_of_op op cycles) }
+    ensures back { (cycles : List Cycle) (op : Op) → IsOfBytes cycles → operation_of cycles ≡ Ok op →
+        Spells cycles op (bytes_of_op op cycles) }
     ensures data_bytes { (op : Op) (bytes : List ℕ) → HasItsBytes op bytes → bytes_of_op op (cycles_of op bytes) ≡ bytes }
     ensures few { (op : Op) (bytes : List ℕ) → HasItsFeature op → length (cycles_of op bytes) ≤ length bytes + 7 }
 {}

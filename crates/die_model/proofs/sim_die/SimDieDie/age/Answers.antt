@@ -17,9 +17,10 @@ returns-clause-ok c =
     let aged = simp to_z-of_z at c.age.ensures in
     let is = c.in-Some.is in
     let P : Option Mounted → Type 0 = λ parts. WhereTold (state_of_parts parts) (λ plan blocks.
-    HasNow (state_of_parts parts) (mounted_state was.plan c.age.new.self.blocks was.read_level)
+    HasNow (state_of_parts parts) (mounted_state was.plan c.age.new.self.blocks was.read_level was.last_failed)
     (with_aged plan.law.erased blocks c.args.sb c.args.amount)) in
-    let now : HasNow (mounted_state was.plan was.store.blocks was.read_level) (mounted_state was.plan c.age.new.self.blocks was.read_level)
+    let now : HasNow (mounted_state was.plan was.store.blocks was.read_level was.last_failed)
+    (mounted_state was.plan c.age.new.self.blocks was.read_level was.last_failed)
     (with_aged was.plan.law.erased was.store.blocks c.args.sb c.args.amount) =
-    record { told_are = ap (λ (s : Stored). Some s.blocks) aged; read_level_stays = refl } in
+    record { told_are = ap (λ (s : Stored). Some s.blocks) aged; read_level_stays = refl; status_stays = refl } in
     subst P (sym is) now

@@ -3,7 +3,8 @@ use Rattle.std.proofs.lemmas.Grind.{get_or_default_zero}
 use Rattle.std.proofs.lemmas.Int.{to_z-of_z}
 use Rattle.std.specs.Int.{w16}
 use Rattle.std.specs.Int.RustNames.{FitsSigned}
-use Rattle.die_model.proofs.KeptLemmas.{in_store, pages_fit, aged}
+use Rattle.die_model.proofs.AgedLemmas.{aged}
+use Rattle.die_model.proofs.KeptLemmas.{in_store, pages_fit}
 use Rattle.die_model.proofs.store.Store.age.Goals as goal
 
 pub start_of-at-requires : goal.start_of-at-requires
