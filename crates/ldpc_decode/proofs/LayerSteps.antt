@@ -1,13 +1,14 @@
 -- One layer of an iteration, on the numbers of all edges in one list.
-use Rattle.std.proofs.Common.{◌≡◌, ℕ, ◌+◌, ◌-◌, ◌*◌, ◌<◌, ◌≤◌, List, [], ◌∷◌, ◌++◌, length, get_or, take, drop, ℤ, All, sym, ap, ◌∙◌, append_assoc, arith}
+use Rattle.std.proofs.Common.{◌≡◌, ℕ, suc, Option, Some, None, filter_map, ◌+◌, ◌-◌, ◌*◌, ◌<◌, ◌≤◌, List, [], ◌∷◌, ◌++◌, length, get_or, take, drop, ℤ, All, sym, ap, ◌∙◌, append_assoc, arith}
+use Rattle.std.specs.List.{range_with_len, cons_option}
 use Rattle.std.proofs.lemmas.List.{drop_more, drop_all, drop-drop, take-append-drop}
 use Rattle.std.proofs.lemmas.List.Elements.{All-append, All-take, All-drop}
 use borrow.Rule.Slice.PartMut.{put_mid}
-use Rattle.std.proofs.lemmas.List.FromFn.{get_or-map-range_with_len, length-map-range_with_len}
+use Rattle.std.proofs.lemmas.List.FromFn.{get_or-map-range_with_len, length-map-range_with_len, length-range_with_len}
 use Rattle.std.proofs.lemmas.Slice.{take-put_mid, drop-put_mid}
 use Rattle.std.proofs.lemmas.List.Sums.{sum_by_more, sum_by_more_le}
 use Rattle.std.proofs.Math.Nat.{mul-le-mul_right}
-use Rattle.ssd_geo.specs.BaseMatrix.{BaseMatrix, IsAccepted, layer_of}
+use Rattle.ssd_geo.specs.BaseMatrix.{BaseMatrix, IsAccepted, block_of_entry, entry_at, layer_of}
 use Rattle.ssd_geo.proofs.AcceptedLayers.{accepted_columns}
 use Rattle.ssd_geo.specs.Decoding.{edge_count, iterated, layer_worked, layers_of}
 
@@ -81,3 +82,16 @@ joined_all m i from p r h =
     let none : drop i (layers_of m) ≡ [] = drop_all i (layers_of m) (omega (arith, layer_count m)) in
     ap (λ (layers : List (List (ℕ × ℕ))). joined (take from r) (iterated layers m.z (p, drop from r))) none
     ∙ ap (λ (xs : List ℤ). (p, xs)) (take-append-drop from r)
+
+length-cons_option : {A : Type 0} (o : Option A) (xs : List A) → length (cons_option o xs) ≤ suc (length xs)
+length-cons_option None xs = omega arith
+length-cons_option (Some x) xs = omega arith
+
+length-filter_map : {A B : Type 0} (f : A → Option B) (xs : List A) → length (filter_map f xs) ≤ length xs
+length-filter_map f [] = omega arith
+length-filter_map f (x ∷ xs) = omega (arith, length-cons_option (f x) (filter_map f xs), length-filter_map f xs)
+
+-- a base row has at most one block in each column
+pub blocks_fit : (m : BaseMatrix) (i : ℕ) → length (layer_of m i) ≤ m.nb
+blocks_fit m i =
+    omega (arith, length-filter_map (λ column. block_of_entry column (entry_at m i column)) (range_with_len 0 m.nb), length-range_with_len 0 m.nb)

@@ -7,6 +7,7 @@ ghost use Rattle.ssd_geo.specs.RowRule.{IsWithin};
 use crate::iteration::edge_total;
 use crate::search::search;
 use crate::{Lanes, Outcome};
+use lane_layer::LaneWork;
 use qc_matrix::Code;
 use ssd_geo::Memory;
 use std::alloc::Global;
@@ -21,6 +22,7 @@ pub struct Decoder {
     lanes: Lanes,
     p: Vec<i16>,
     r: Vec<i8>,
+    work: LaneWork,
     decision: Vec<u8>,
 }
 
@@ -46,6 +48,7 @@ impl Decoder {
         let edges = edge_total(&code);
         let p = vec![in alloc; 0i16; variables].map_err(|_| Memory)?;
         let r = vec![in alloc; 0i8; edges].map_err(|_| Memory)?;
+        let work = LaneWork::new(alloc, code.z(), u16::from(code.nb()))?;
         let decision = vec![in alloc; 0u8; (variables + 7) / 8].map_err(|_| Memory)?;
         Ok(Decoder {
             code,
@@ -53,6 +56,7 @@ impl Decoder {
             lanes,
             p,
             r,
+            work,
             decision,
         })
     }
@@ -76,9 +80,11 @@ impl Decoder {
         search(
             &self.code,
             self.iterations,
+            self.lanes,
             values,
             self.p.as_mut_slice(),
             self.r.as_mut_slice(),
+            &mut self.work,
             self.decision.as_mut_slice(),
             word,
             &mut done,

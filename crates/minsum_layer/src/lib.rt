@@ -3,8 +3,6 @@
 
 mod layer;
 mod row;
-#[cfg(test)]
-mod tests;
 
 pub use layer::layer_serial;
 pub use row::row_update;

@@ -1,7 +1,7 @@
 ghost use Rattle.std.specs.Prelude.{◌≡◌, ◌+◌, ◌/◌, ◌<◌, ◌≤◌, count_by, length};
 ghost use Rattle.std.specs.List.{range_with_len};
 ghost use Rattle.ssd_geo.specs.Bits.{bits_of};
-ghost use Rattle.ssd_geo.specs.Codewords.{failed_checks, is_odd_row, word_bits};
+ghost use Rattle.ssd_geo.specs.Codewords.{failed_checks, is_codeword, is_odd_row, word_bits};
 
 use super::code::Code;
 use ssd_bits::{rotate_xor_into, weight};
@@ -20,6 +20,19 @@ impl Code {
             failed += self.odd_rows(i, word);
         }
         failed
+    }
+
+    /// Whether no check row of a word has an odd sum. The first base row with one that has ends the test.
+    pub fn is_codeword(&self, word: &[u8]) -> bool
+        requires { length word.now ≡ (word_bits self.now + 7) / 8 }
+        ensures { result ≡ is_codeword self.now (bits_of (word_bits self.now) word.now) }
+    {
+        for row in 0..self.mb() {
+            if self.odd_rows(row, word) != 0 {
+                return false;
+            }
+        }
+        true
     }
 
     // How many check rows of base row i have an odd sum: the ones in the sum of its turned blocks.

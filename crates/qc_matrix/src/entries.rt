@@ -1,6 +1,6 @@
 ghost use Rattle.std.specs.Prelude.{◌≡◌, ◌+◌, ◌*◌, ◌<◌, ◌≤◌, length, option_map, pos, slice_index_or, negsuc};
 ghost use Rattle.std.specs.Ordering.{int_eq};
-ghost use Rattle.ssd_geo.specs.BaseMatrix.{IsWithinLimits, block_of, breaks_parity_column, column_fault, diagonal, diagonal_entry, diagonal_fault, entry_at, entry_range, has_middle_before, is_in_range, parity_column, parity_entry, range_fault};
+ghost use Rattle.ssd_geo.specs.BaseMatrix.{IsWithinLimits, block_of_entry, breaks_parity_column, column_fault, diagonal, diagonal_entry, diagonal_fault, entry_at, entry_range, has_middle_before, is_entry_in_range, parity_column, parity_entry, range_fault};
 
 /// The entries of a base matrix, row by row, with its sizes.
 #[derive(Clone, Copy)]
@@ -29,7 +29,7 @@ impl Entries<'_> {
         requires row { i < self.now.mb }
         requires column { column < self.now.nb }
         requires limits { IsWithinLimits (matrix_of self.now) }
-        ensures { result ≡ block_of column (entry_at (matrix_of self.now) i column) }
+        ensures { result ≡ block_of_entry column (entry_at (matrix_of self.now) i column) }
     {
         let entry = self.at(i as usize, column as usize);
         if entry < 0 {
@@ -43,7 +43,7 @@ impl Entries<'_> {
         requires row { i < self.now.mb }
         requires column { j < self.now.nb }
         requires limits { IsWithinLimits (matrix_of self.now) }
-        ensures { result ≡ is_in_range self.now.z (entry_at (matrix_of self.now) i j) }
+        ensures { result ≡ is_entry_in_range self.now.z (entry_at (matrix_of self.now) i j) }
     {
         let entry = self.at(i, j);
         entry >= -1 && entry < self.z as i16

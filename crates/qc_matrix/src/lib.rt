@@ -10,6 +10,3 @@ mod layers;
 
 pub use code::Code;
 pub use fault::CodeFault;
-
-#[cfg(test)]
-mod tests;

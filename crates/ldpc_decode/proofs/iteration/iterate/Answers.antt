@@ -25,6 +25,7 @@ loop-i-preserved c =
       layer_step m i from own c.loop-i.p c.loop-i.r c.work_layer.new.p c.work_layer.new.r in_rows c.edges_in.ensures.value (omega (arith, c.loop-i.invariant.0)) (omega arith) c.work_layer.ensures.worked ∙ c.loop-i.invariant.1,
       c.work_layer.ensures.p_within,
       All-written (IsWithin 95) from (from + own - from) c.loop-i.r c.work_layer.new.r c.loop-i.invariant.3 c.work_layer.ensures.r_within,
+      c.work_layer.ensures.same ∙ c.loop-i.invariant.4,
     )
 
 pub returns-clause-worked : goal.returns-clause-worked

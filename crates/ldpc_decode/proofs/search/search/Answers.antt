@@ -31,6 +31,7 @@ loop-before-preserved c =
           (tested m values (n + 1) c.iterate.new.p c.iterate.new.r c.is_decided-in-loop-before.result false after c.is_decided-in-loop-before.ensures.answer c.if-is_decided-2.false),
       c.loop-before.invariant.4,
       omega (arith, c.iterate.ensures.counted, c.loop-before.invariant.5),
+      c.iterate.ensures.same ∙ c.loop-before.invariant.6,
     )
 
 pub returns-clause-answer : goal.returns-clause-answer

@@ -1,13 +1,13 @@
 -- The first entry out of range is found by its place in the list.
 use Rattle.std.proofs.Common.{ℕ, ◌*◌, ◌/◌, ◌%◌, Bool, not, option_map, ap, sym, ◌∙◌, arith}
-use Rattle.ssd_geo.specs.BaseMatrix.{entry_at, entry_range, is_in_range}
+use Rattle.ssd_geo.specs.BaseMatrix.{entry_at, entry_range, is_entry_in_range}
 use Rattle.qc_matrix.specs.Entries.{matrix_of}
 use Rattle.qc_matrix.specs.declared.entries.Entries.{Entries}
 use Rattle.qc_matrix.proofs.Find.{find-none, find-some}
 use Rattle.qc_matrix.proofs.entries.Entries.range_fault.Goals as goal
 
 out_of_range : Entries → ℕ → Bool
-out_of_range e k = not (is_in_range e.z (entry_at (matrix_of e) (k / e.nb) (k % e.nb)))
+out_of_range e k = not (is_entry_in_range e.z (entry_at (matrix_of e) (k / e.nb) (k % e.nb)))
 
 pub returns-then-not-is_in_range : goal.returns-then-not-is_in_range
 unfolding out_of_range
