@@ -1,0 +1,12 @@
+pub mod Numbers
+pub mod Lists
+pub mod Seats
+pub mod Making
+pub mod Drawing
+pub mod Coming
+pub mod Ending
+pub mod Dividing
+pub mod Joining
+pub mod Closing
+pub mod Dealing
+pub mod Gathering
