@@ -1,0 +1,5 @@
+use Rattle.serial_laws.proofs.OneReply.{serial_calls_have_one_reply}
+use Rattle.serial_laws.proofs.replies.serial_calls_have_one_reply.Goals as goal
+
+pub returns : goal.returns
+returns c = serial_calls_have_one_reply

@@ -1,0 +1,3 @@
+pub mod SerialLooks
+pub mod SerialOrder
+pub mod SerialReplies
