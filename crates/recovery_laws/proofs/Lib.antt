@@ -1,0 +1,15 @@
+pub mod AnsweredReads
+pub mod DecidedReads
+pub mod EmptyReads
+pub mod HeldLooks
+pub mod LookLists
+pub mod NamedPages
+pub mod OtherVerbs
+pub mod Pasts
+pub mod ReadReplies
+pub mod RecoveredReads
+pub mod RowWords
+pub mod SettledLadders
+pub mod StepParts
+pub mod WordData
+pub mod WritingCalls

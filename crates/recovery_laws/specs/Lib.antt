@@ -1,0 +1,4 @@
+pub mod HeldLooks
+pub mod PageData
+pub mod ReadReplies
+pub mod RecoveredReads
