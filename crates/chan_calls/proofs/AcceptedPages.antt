@@ -9,11 +9,10 @@ use Rattle.retry_ladder.specs.View.{IsAnswerOf}
 use Rattle.retry_ladder.specs.declared.ask.Answer.{Answer}
 use Rattle.ssd_geo.specs.Bits.{bytes_sum}
 use Rattle.ssd_geo.specs.Coding.{Coding, data_in}
-use Rattle.ssd_geo.specs.Ladder.{LadderState, PlaceState, accepted, asks, best_level, found, has_answer, hard_work, missed, other_places, place_work, recovered, soft_levels, soft_work, stripe_work, uncorrectable, wants}
+use Rattle.ssd_geo.specs.Ladder.{LadderState, PlaceState, accepted, asks, best_level, found, has_answer, hard_work, missed, other_places, place_work, recovered, soft_levels, soft_work, stripe_work, uncorrectable, wants, ladder_over}
 use Rattle.ssd_geo.specs.Limits.{payload_bytes_of}
 use Rattle.ssd_geo.specs.PageHead.{are_zeros, head_of_page}
-use Rattle.ssd_geo.specs.PastPages.{ladder_over}
-use Rattle.ssd_geo.specs.Replies.{bytes_of_word, reply_of_ladder}
+use Rattle.ssd_histories.specs.Replies.{bytes_of_word, reply_of_ladder}
 use Rattle.ssd_geo.specs.Stripe.{place_of_slot}
 use Rattle.ssd_geo.specs.StripeSum.{zero_word}
 use Rattle.ssd_geo.specs.declared.look.Look.{Look}

@@ -1,7 +1,7 @@
 -- What a caller added is what another one added that is as much alone, and one more entry may
 -- follow.
 use Rattle.std.proofs.Common.{◌≡◌, List, [], ◌∷◌, ◌++◌, refl, sym, subst, ◌∙◌}
-use Rattle.ssd_geo.specs.SerialCalls.{entry_of}
+use Rattle.ssd_histories.specs.SerialCalls.{entry_of}
 use Rattle.ssd_geo.specs.declared.entry.Entry.{Entry}
 use Rattle.ssd_geo.specs.declared.kind.Kind.{Kind}
 use Rattle.ssd_geo.specs.declared.tag.Tag.{Tag}

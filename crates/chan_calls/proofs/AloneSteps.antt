@@ -1,7 +1,7 @@
 -- A step of a caller that is alone finds the past that the caller has seen, and adds to that.
 use Rattle.std.proofs.Common.{ℕ, [], List, refl, arith}
 use Rattle.std.specs.Prelude.{ℤ}
-use Rattle.ssd_geo.specs.Start.{Start}
+use Rattle.ssd_histories.specs.Start.{Start}
 use Rattle.ssd_geo.specs.declared.base.ChannelBase.{ChannelBase}
 use Rattle.ssd_geo.specs.declared.kind.Kind.{Kind}
 use Rattle.ssd_geo.specs.declared.place.Place.{Place}

@@ -6,13 +6,13 @@ use Rattle.chan_state.specs.declared.answers.LookAnswer.TheVariants.{Found}
 use Rattle.retry_ladder.specs.Decoder.{IsCodeOf}
 use Rattle.retry_ladder.specs.Running.{at_page, place_start}
 use Rattle.retry_ladder.specs.View.{IsLookIn, LadderView}
-use Rattle.run_laws.specs.ServedCalls.{after_look}
+use Rattle.ssd_histories.specs.ServedCalls.{after_look}
 use Rattle.ssd_geo.specs.BaseMatrix.{BaseMatrix}
 use Rattle.ssd_geo.specs.Coding.{coding_of}
-use Rattle.ssd_geo.specs.History.{look_of}
-use Rattle.ssd_geo.specs.Lawful.{IsLawful, has_fault_sense}
-use Rattle.ssd_geo.specs.PastPages.{ladder_of}
-use Rattle.ssd_geo.specs.Start.{Start}
+use Rattle.ssd_histories.specs.History.{look_of}
+use Rattle.ssd_histories.specs.Lawful.{IsLawful, has_fault_sense}
+use Rattle.ssd_histories.specs.PastPages.{ladder_of}
+use Rattle.ssd_histories.specs.Start.{Start}
 use Rattle.ssd_geo.specs.declared.entry.Entry.{Entry}
 use Rattle.ssd_geo.specs.declared.look.Look.{Look}
 use Rattle.ssd_geo.specs.declared.shape.Shape.{Shape}

@@ -2,13 +2,13 @@
 -- other.
 use Rattle.std.proofs.Common.{◌≡◌, ℕ, List, [], ◌∷◌, ◌++◌, length, None, sym, ◌∙◌, ap, inl, inr}
 use Rattle.std.specs.Prelude.{ℤ}
-use Rattle.run_laws.specs.ServedCalls as Served
-use Rattle.run_laws.specs.ServedCalls.{after_lone_look, after_look, after_senses, after_sensing}
+use Rattle.ssd_histories.specs.ServedCalls as Served
+use Rattle.ssd_histories.specs.ServedCalls.{after_lone_look, after_look, after_senses, after_sensing}
 use Rattle.ssd_geo.specs.Coding.{coding_of}
-use Rattle.ssd_geo.specs.PastPages.{ladder_of}
-use Rattle.ssd_geo.specs.Replies.{reply_of_ladder}
-use Rattle.ssd_geo.specs.SerialCalls.{entry_of}
-use Rattle.ssd_geo.specs.Start.{Start}
+use Rattle.ssd_histories.specs.PastPages.{ladder_of}
+use Rattle.ssd_histories.specs.Replies.{reply_of_ladder}
+use Rattle.ssd_histories.specs.SerialCalls.{entry_of}
+use Rattle.ssd_histories.specs.Start.{Start}
 use Rattle.ssd_geo.specs.declared.entry.Entry.{Entry}
 use Rattle.ssd_geo.specs.declared.kind.Kind.{Kind}
 use Rattle.ssd_geo.specs.declared.place.Place.{Place}

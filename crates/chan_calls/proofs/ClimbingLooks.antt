@@ -12,13 +12,13 @@ use Rattle.retry_ladder.proofs.Standing.{fed_ladders_stand, ladders_tell_their_s
 use Rattle.retry_ladder.specs.declared.ask.Ask.{Ask}
 use Rattle.ssd_geo.specs.BaseMatrix.{BaseMatrix}
 use Rattle.ssd_geo.specs.Coding.{Coding, coding_of, matrix_of}
-use Rattle.ssd_geo.specs.History.{look_of}
-use Rattle.ssd_geo.specs.HistoryLaws.{AsksBelow}
-use Rattle.ssd_geo.specs.Ladder.{LadderState, asks, has_answer, recovered, uncorrectable}
-use Rattle.ssd_geo.specs.Lawful.{has_fault_sense}
-use Rattle.ssd_geo.specs.PastPages.{ladder_of, ladder_over, sense_of, senses_of}
-use Rattle.ssd_geo.specs.Ranges.{has_place}
-use Rattle.ssd_geo.specs.Start.{Start}
+use Rattle.ssd_histories.specs.History.{look_of}
+use Rattle.ssd_geo.specs.LadderLaws.{AsksBelow}
+use Rattle.ssd_geo.specs.Ladder.{LadderState, asks, has_answer, recovered, uncorrectable, ladder_over}
+use Rattle.ssd_histories.specs.Lawful.{has_fault_sense}
+use Rattle.ssd_histories.specs.PastPages.{ladder_of, sense_of, senses_of}
+use Rattle.ssd_histories.specs.Ranges.{has_place}
+use Rattle.ssd_histories.specs.Start.{Start}
 use Rattle.ssd_geo.specs.Stripe.{place_of_slot}
 use Rattle.ssd_geo.specs.StripeLaws.{IsPlace}
 use Rattle.ssd_geo.specs.declared.entry.Entry.{Entry}

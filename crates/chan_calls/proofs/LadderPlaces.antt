@@ -7,9 +7,8 @@ use Rattle.std.proofs.lemmas.Bool.Decides.{nat_tests}
 use Rattle.std.proofs.lemmas.List.Elements.{All-nil, All-cons, All-head, All-tail}
 use Rattle.ssd_geo.specs.Bits.{bytes_sum}
 use Rattle.ssd_geo.specs.Coding.{Coding}
-use Rattle.ssd_geo.specs.Ladder.{LadderState, PlaceState, asks, recovered, uncorrectable, wants, found, missed, place_work, stripe_work, other_places}
-use Rattle.ssd_geo.specs.PastPages.{ladder_over}
-use Rattle.ssd_geo.specs.Ranges.{has_place, has_slot}
+use Rattle.ssd_geo.specs.Ladder.{LadderState, PlaceState, asks, recovered, uncorrectable, wants, found, missed, place_work, stripe_work, other_places, ladder_over}
+use Rattle.ssd_histories.specs.Ranges.{has_place, has_slot}
 use Rattle.ssd_geo.specs.Stripe.{place_of_slot}
 use Rattle.ssd_geo.specs.StripeLaws.{HasPlace, IsPlace}
 use Rattle.ssd_geo.specs.StripeSum.{zero_word}

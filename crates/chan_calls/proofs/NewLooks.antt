@@ -7,13 +7,13 @@ use Rattle.std.proofs.lemmas.List.Elements.{All-nil}
 use Rattle.std.proofs.lemmas.List.Sums.{sum_by-cons}
 use Rattle.chan_state.proofs.EarlierLooks.{found_new, none_later}
 use Rattle.chan_state.specs.TablesState.{senses_had}
-use Rattle.run_laws.specs.ServedCalls.{after_look}
-use Rattle.ssd_geo.specs.CallSteps.{is_sense_of}
-use Rattle.ssd_geo.specs.History.{look_by, look_of, open_looks}
+use Rattle.ssd_histories.specs.ServedCalls.{after_look}
+use Rattle.ssd_histories.specs.CallSteps.{is_sense_of}
+use Rattle.ssd_histories.specs.History.{look_by, look_of, open_looks}
 use Rattle.ssd_geo.specs.Ladder.{LadderState}
-use Rattle.ssd_geo.specs.Lawful.{IsLawfulBy, IsLawfulKind, IsLawfulSense, has_fault_sense, is_fault_sense_of}
-use Rattle.ssd_geo.specs.OpenLooks.{look_at}
-use Rattle.ssd_geo.specs.SerialCalls.{entry_of}
+use Rattle.ssd_histories.specs.Lawful.{IsLawfulBy, IsLawfulKind, IsLawfulSense, has_fault_sense, is_fault_sense_of}
+use Rattle.ssd_histories.specs.OpenLooks.{look_at}
+use Rattle.ssd_histories.specs.SerialCalls.{entry_of}
 use Rattle.ssd_geo.specs.declared.base.ChannelBase.{ChannelBase}
 use Rattle.ssd_geo.specs.declared.entry.Entry.{Entry}
 use Rattle.ssd_geo.specs.declared.kind.Kind.{Kind}

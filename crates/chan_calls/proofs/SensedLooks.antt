@@ -4,13 +4,13 @@ use Rattle.std.specs.Prelude.{ℤ}
 use Rattle.std.proofs.lemmas.Bool.Decides.{nat_tests}
 use Rattle.std.proofs.lemmas.List.Sums.{sum_by-cons}
 use Rattle.chan_state.specs.TablesState.{senses_had}
-use Rattle.ssd_geo.specs.CallSteps.{is_sense_of}
+use Rattle.ssd_histories.specs.CallSteps.{is_sense_of}
 use Rattle.ssd_geo.specs.Cells.{sensed}
 use Rattle.ssd_geo.specs.Coding.{Coding}
-use Rattle.ssd_geo.specs.History.{look_made, look_of}
-use Rattle.ssd_geo.specs.PastPages.{levels_in, page_of, sense_of, senses_of}
-use Rattle.ssd_geo.specs.SerialCalls.{entry_of}
-use Rattle.ssd_geo.specs.Start.{Start}
+use Rattle.ssd_histories.specs.History.{look_made, look_of}
+use Rattle.ssd_histories.specs.PastPages.{levels_in, page_of, sense_of, senses_of}
+use Rattle.ssd_histories.specs.SerialCalls.{entry_of}
+use Rattle.ssd_histories.specs.Start.{Start}
 use Rattle.ssd_geo.specs.declared.entry.Entry.{Entry}
 use Rattle.ssd_geo.specs.declared.kind.Kind.{Kind}
 use Rattle.ssd_geo.specs.declared.look.Look.{Look}

@@ -7,8 +7,8 @@ use Rattle.chan_state.specs.declared.answers.WriteAnswer.{WriteAnswer}
 use Rattle.ssd_geo.specs.BaseMatrix.{BaseMatrix}
 use Rattle.ssd_geo.specs.Codewords.{word_of}
 use Rattle.ssd_geo.specs.Coding.{matrix_of, payload_of}
-use Rattle.ssd_geo.specs.PastRows.{serial_of}
-use Rattle.ssd_geo.specs.Start.{Start, data_of}
+use Rattle.ssd_histories.specs.PastRows.{serial_of}
+use Rattle.ssd_histories.specs.Start.{Start, data_of}
 use Rattle.ssd_geo.specs.declared.shape.Shape.{Shape}
 use Rattle.ssd_geo.specs.declared.stop.StepStop.{StepStop}
 use Rattle.ssd_geo.specs.declared.tag.Tag.{Tag}

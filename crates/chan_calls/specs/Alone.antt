@@ -1,7 +1,7 @@
 -- What does a caller that is alone on a channel know of it? All of its past: no step of another
 -- comes between its own.
 use Rattle.std.specs.Prelude.{ℕ, ◌≡◌, None}
-use Rattle.ssd_geo.specs.History.{open_looks}
+use Rattle.ssd_histories.specs.History.{open_looks}
 use Rattle.chan_state.specs.ChannelState.{ChannelState}
 use Rattle.chan_calls.specs.Caller.{CallerView}
 

@@ -5,14 +5,14 @@ use Rattle.std.specs.Prelude.{ℕ, ◌≡◌, ◌≢◌, ◌+◌, ◌≤◌, Lis
 use Rattle.chan_state.specs.Steps.{IsWordOf}
 use Rattle.chan_state.specs.TablesState.{room_of_look, room_of_step, senses_had}
 use Rattle.ssd_geo.specs.Coding.{coding_of}
-use Rattle.ssd_geo.specs.History.{look_by, look_of, open_looks}
+use Rattle.ssd_histories.specs.History.{look_by, look_of, open_looks}
 use Rattle.ssd_geo.specs.Ladder.{LadderState}
-use Rattle.ssd_geo.specs.Lawful.{has_fault_sense}
-use Rattle.ssd_geo.specs.OpenLooks.{look_at}
-use Rattle.ssd_geo.specs.PastPages.{ladder_of, senses_of}
-use Rattle.ssd_geo.specs.SerialCalls.{entry_of}
-use Rattle.ssd_geo.specs.Standing.{IsPastOf}
-use Rattle.ssd_geo.specs.Start.{Start, data_of}
+use Rattle.ssd_histories.specs.Lawful.{has_fault_sense}
+use Rattle.ssd_histories.specs.OpenLooks.{look_at}
+use Rattle.ssd_histories.specs.PastPages.{ladder_of, senses_of}
+use Rattle.ssd_histories.specs.SerialCalls.{entry_of}
+use Rattle.ssd_histories.specs.Standing.{IsPastOf}
+use Rattle.ssd_histories.specs.Start.{Start, data_of}
 use Rattle.ssd_geo.specs.declared.entry.Entry.{Entry}
 use Rattle.ssd_geo.specs.declared.kind.Kind.{Kind}
 use Rattle.ssd_geo.specs.declared.look.Look.{Look}

@@ -3,13 +3,13 @@
 -- fact is of a start and contents for which the worker works and the channel stood.
 use Rattle.std.specs.Prelude.{ℕ, ◌≡◌, ◌⊎◌, Bool, List, ◌∷◌, length, map, ℤ, None, Some, Result, Ok, Err, ⊤}
 use Rattle.chan_state.specs.declared.answers.WriteAnswer.{WriteAnswer}
-use Rattle.run_laws.specs.ServedCalls as Served
-use Rattle.run_laws.specs.ServedCalls.{after_lone_look, after_look, reply_to_none}
+use Rattle.ssd_histories.specs.ServedCalls as Served
+use Rattle.ssd_histories.specs.ServedCalls.{after_lone_look, after_look, reply_to_none}
 use Rattle.ssd_geo.specs.Coding.{coding_of}
-use Rattle.ssd_geo.specs.PastPages.{ladder_of}
-use Rattle.ssd_geo.specs.Replies.{reply_of_ladder}
-use Rattle.ssd_geo.specs.SerialCalls.{entry_of}
-use Rattle.ssd_geo.specs.Start.{Start, data_of}
+use Rattle.ssd_histories.specs.PastPages.{ladder_of}
+use Rattle.ssd_histories.specs.Replies.{reply_of_ladder}
+use Rattle.ssd_histories.specs.SerialCalls.{entry_of}
+use Rattle.ssd_histories.specs.Start.{Start, data_of}
 use Rattle.ssd_geo.specs.declared.entry.Entry.{Entry}
 use Rattle.ssd_geo.specs.declared.kind.Kind.{Kind}
 use Rattle.ssd_geo.specs.declared.place.Place.{Place}

@@ -7,10 +7,10 @@ use Rattle.retry_ladder.specs.View.{IsLookIn, LadderView, StandsFor}
 use Rattle.retry_ladder.specs.Decoder.{IsCodeOf}
 use Rattle.ssd_geo.specs.BaseMatrix.{BaseMatrix}
 use Rattle.ssd_geo.specs.Coding.{coding_of, matrix_of}
-use Rattle.ssd_geo.specs.History.{look_of}
-use Rattle.ssd_geo.specs.Lawful.{has_fault_sense}
-use Rattle.ssd_geo.specs.PastPages.{senses_of}
-use Rattle.ssd_geo.specs.Start.{Start}
+use Rattle.ssd_histories.specs.History.{look_of}
+use Rattle.ssd_histories.specs.Lawful.{has_fault_sense}
+use Rattle.ssd_histories.specs.PastPages.{senses_of}
+use Rattle.ssd_histories.specs.Start.{Start}
 use Rattle.ssd_geo.specs.declared.look.Look.{Look}
 use Rattle.ssd_geo.specs.declared.place.Place.{Place}
 use Rattle.ssd_geo.specs.declared.tag.Tag.{Tag}

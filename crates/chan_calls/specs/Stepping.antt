@@ -9,15 +9,15 @@ use Rattle.chan_state.specs.declared.answers.LookAnswer.{LookAnswer}
 use Rattle.chan_state.specs.declared.answers.LookAnswer.TheVariants.{Empty, Found, Lost}
 use Rattle.chan_state.specs.declared.answers.WriteAnswer.{WriteAnswer}
 use Rattle.chan_state.specs.declared.answers.WriteAnswer.TheVariants.{NeedRoom, Written}
-use Rattle.run_laws.specs.ServedCalls.{after_age, after_lone_look, after_look, after_trim, after_write}
+use Rattle.ssd_histories.specs.ServedCalls.{after_age, after_lone_look, after_look, after_trim, after_write}
 use Rattle.ssd_geo.specs.Coding.{coding_of}
 use Rattle.ssd_geo.specs.Ladder.{asks, has_answer}
-use Rattle.ssd_geo.specs.Lawful.{has_fault_sense}
-use Rattle.ssd_geo.specs.PastPages.{ladder_of, sense_of}
-use Rattle.ssd_geo.specs.Ranges.{has_slot}
-use Rattle.ssd_geo.specs.Room.{has_host_room}
-use Rattle.ssd_geo.specs.SerialCalls.{entry_of}
-use Rattle.ssd_geo.specs.Start.{Start}
+use Rattle.ssd_histories.specs.Lawful.{has_fault_sense}
+use Rattle.ssd_histories.specs.PastPages.{ladder_of, sense_of}
+use Rattle.ssd_histories.specs.Ranges.{has_slot}
+use Rattle.ssd_histories.specs.Room.{has_host_room}
+use Rattle.ssd_histories.specs.SerialCalls.{entry_of}
+use Rattle.ssd_histories.specs.Start.{Start}
 use Rattle.ssd_geo.specs.declared.entry.Entry.{Entry}
 use Rattle.ssd_geo.specs.declared.kind.Kind.{Kind}
 use Rattle.ssd_geo.specs.declared.place.Place.{Place}

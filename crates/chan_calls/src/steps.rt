@@ -4,8 +4,8 @@ ghost use Rattle.chan_calls.specs.Caller.{CallerView, HasLookRoom, HasStepRoom, 
 ghost use Rattle.chan_calls.specs.Stepping.{GoesOn, IsStepped, Leaves, MakesAge, MakesLook, MakesTrim, MakesWrite, MaySense, Senses, WritesOn};
 ghost use Rattle.ssd_geo.specs.Coding.{word_bytes_in};
 ghost use Rattle.ssd_geo.specs.Ladder.{asks, has_answer};
-ghost use Rattle.ssd_geo.specs.Ranges.{has_place};
-ghost use Rattle.ssd_geo.specs.Start.{Start};
+ghost use Rattle.ssd_histories.specs.Ranges.{has_place};
+ghost use Rattle.ssd_histories.specs.Start.{Start};
 ghost use Rattle.ssd_geo.specs.declared.tag.Tag.{Tag};
 
 use chan_state::{AgeAnswer, LookAnswer, SenseAnswer, WriteAnswer};

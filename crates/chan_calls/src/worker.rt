@@ -7,8 +7,8 @@ ghost use Rattle.chan_calls.specs.Stepping.{IsStepped, MakesWrite};
 ghost use Rattle.chan_calls.specs.Ready.{HasBuffers, IsReplyOf};
 ghost use Rattle.chan_calls.specs.Workers.{MayCall, WorkerState};
 ghost use Rattle.retry_ladder.specs.Decoder.{IsCodeOf};
-ghost use Rattle.ssd_geo.specs.PastRows.{serial_of};
-ghost use Rattle.ssd_geo.specs.Standing.{is_level};
+ghost use Rattle.ssd_histories.specs.PastRows.{serial_of};
+ghost use Rattle.ssd_geo.specs.Limits.{is_level};
 
 use crate::climb::climb;
 use crate::gate::{Gate, Moment, Point};

@@ -2,18 +2,18 @@
 use Rattle.std.proofs.Common.{ℕ, zero, suc, ◌≡◌, ◌≢◌, ◌<◌, ◌%◌, List, [], ◌∷◌, ◌++◌, None, Some, refl, sym, ap, subst, ◌∙◌, inl, inr, arith, length-set, get_or-set_same, get_or-set_other}
 use Rattle.std.specs.Prelude.{All, length, slice_get, slice_set, slice_index_or, option_map, IsSomeAnd}
 use Rattle.std.specs.List.{enumerate_from}
-use Rattle.ssd_geo.specs.CallSteps.{steps_of}
-use Rattle.ssd_geo.specs.CallsInOrder.{ChannelRun, IsReplyBy, OfRun, ladder_in, reply_to, steps_on}
-use Rattle.ssd_geo.specs.PastPages.{sense_for}
-use Rattle.ssd_geo.specs.Replies.{collect_reply, decided_pages, drained_on, pages_on, read_reply, refresh_reply, reply_of_refresh, single_reply, write_reply}
-use Rattle.ssd_geo.specs.Start.{Start}
+use Rattle.ssd_histories.specs.CallSteps.{steps_of}
+use Rattle.ssd_histories.specs.CallsInOrder.{ChannelRun, IsReplyBy, OfRun, ladder_in, reply_to, steps_on}
+use Rattle.ssd_histories.specs.PastPages.{sense_for}
+use Rattle.ssd_histories.specs.Replies.{collect_reply, decided_pages, drained_on, pages_on, read_reply, refresh_reply, reply_of_refresh, single_reply, write_reply}
+use Rattle.ssd_histories.specs.Start.{Start}
 use Rattle.ssd_geo.specs.declared.entry.Entry.{Entry}
 use Rattle.ssd_geo.specs.declared.kind.Kind.{Kind}
 use Rattle.ssd_geo.specs.declared.reply.Reply.{Reply}
 use Rattle.ssd_geo.specs.declared.tag.Tag.{Tag}
 use Rattle.ssd_geo.specs.declared.trace.TraceCall.{TraceCall}
 use Rattle.ssd_geo.specs.declared.trace.Verb.{Verb}
-use Rattle.run_laws.specs.Headline.{ReadsLastWrite}
+use Rattle.ssd_histories.specs.LastWrites.{ReadsLastWrite}
 use Rattle.run_laws.specs.ServedPasts.{IsPlainPast}
 use Rattle.run_laws.specs.ServedRuns.{IsAnswered, with_reply}
 use Rattle.run_laws.proofs.ChangedRuns.{channel_goes_on, channels_go_on, one_or_other}

@@ -4,17 +4,17 @@ use Rattle.std.specs.Prelude.{All, IsTrue, count_by, sum_by, slice_index_or}
 use Rattle.std.specs.List.{list_all}
 use Rattle.std.proofs.lemmas.List.{length-map, length-replicate}
 use Rattle.std.proofs.lemmas.List.Elements.{All-nil, All-cons, All-head, All-replicate, All-tail, All-get_or}
-use Rattle.ssd_geo.specs.CallsInOrder.{ChannelRun, IsWhole, is_of_call, never_fall}
-use Rattle.ssd_geo.specs.History.{open_looks}
-use Rattle.ssd_geo.specs.RunText.{is_hinted, taken_by}
-use Rattle.ssd_geo.specs.SerialHistory.{AreServed, first_state, most_hints, none_left}
-use Rattle.ssd_geo.specs.Start.{Start}
+use Rattle.ssd_histories.specs.CallsInOrder.{ChannelRun, IsWhole, is_of_call, never_fall}
+use Rattle.ssd_histories.specs.History.{open_looks}
+use Rattle.ssd_formats.specs.RunText.{is_hinted, taken_by}
+use Rattle.ssd_histories.specs.SerialHistory.{AreServed, first_state, most_hints, none_left}
+use Rattle.ssd_histories.specs.Start.{Start}
 use Rattle.ssd_geo.specs.declared.entry.Entry.{Entry}
 use Rattle.ssd_geo.specs.declared.reply.Reply.{Reply}
 use Rattle.ssd_geo.specs.declared.tag.Tag.{Tag}
-use Rattle.run_laws.specs.Headline.{contents_in}
+use Rattle.run_laws.specs.ServedRuns.{contents_in, IsAnswered, ServingBegins, hints_in}
+use Rattle.run_laws.specs.Runs.{runs_with}
 use Rattle.run_laws.specs.ServedPasts.{IsPlainKind, IsPlainPast, IsPlainStart}
-use Rattle.run_laws.specs.ServedRuns.{IsAnswered, ServingBegins, hints_in, runs_with}
 use Rattle.run_laws.specs.WrittenRoom.{writes_in}
 use Rattle.run_laws.proofs.ChangedRuns.{all_at, sum_of_none}
 

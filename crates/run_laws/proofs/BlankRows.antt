@@ -4,9 +4,9 @@ use Rattle.std.proofs.lemmas.List.Elements.{All-head, All-tail}
 use Rattle.ssd_geo.specs.declared.entry.Entry.{Entry}
 use Rattle.ssd_geo.specs.declared.row.Row.{Row}
 use Rattle.ssd_geo.specs.declared.tag.Tag.{Tag}
-use Rattle.ssd_geo.specs.LookLaws.{NamesUsed, RowsNameUsed}
-use Rattle.ssd_geo.specs.PastRows.{row_of}
-use Rattle.ssd_geo.specs.Start.{Start}
+use Rattle.ssd_histories.specs.LookLaws.{NamesUsed, RowsNameUsed}
+use Rattle.ssd_histories.specs.PastRows.{row_of}
+use Rattle.ssd_histories.specs.Start.{Start}
 use Rattle.run_laws.specs.ServedPasts.{IsPlainKind, IsPlainPast, IsPlainStart}
 
 -- every row of empty ones is empty

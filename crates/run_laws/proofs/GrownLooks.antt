@@ -6,10 +6,11 @@ use Rattle.std.proofs.lemmas.Bool.Decides.{nat_tests}
 use Rattle.std.proofs.lemmas.List.Elements.{All-head, All-tail}
 use Rattle.ssd_geo.specs.Cells.{sensed}
 use Rattle.ssd_geo.specs.Coding.{Coding}
-use Rattle.ssd_geo.specs.History.{look_made, look_of}
-use Rattle.ssd_geo.specs.PastPages.{ladder_over, levels_in, page_of, sense_for, senses_of}
-use Rattle.ssd_geo.specs.PlainMap.{HasRecovered, IsRecoveredPage, past_at, word_looked_at}
-use Rattle.ssd_geo.specs.Start.{Start}
+use Rattle.ssd_histories.specs.History.{look_made, look_of}
+use Rattle.ssd_histories.specs.PastPages.{levels_in, page_of, sense_for, senses_of}
+use Rattle.ssd_geo.specs.Ladder.{ladder_over}
+use Rattle.ssd_histories.specs.PlainMap.{HasRecovered, IsRecoveredPage, past_at, word_looked_at}
+use Rattle.ssd_histories.specs.Start.{Start}
 use Rattle.ssd_geo.specs.declared.entry.Entry.{Entry}
 use Rattle.ssd_geo.specs.declared.kind.Kind.{Kind}
 use Rattle.ssd_geo.specs.declared.look.Look.{Look}

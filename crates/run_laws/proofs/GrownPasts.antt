@@ -5,10 +5,10 @@ use Rattle.std.specs.Prelude.{◌||◌, All, count_by}
 use Rattle.std.specs.List.{list_all, list_any}
 use Rattle.std.proofs.lemmas.List.Elements.{All-nil, All-cons, All-head, All-tail}
 use Rattle.std.proofs.lemmas.List.Folds.{list_any-append}
-use Rattle.ssd_geo.specs.CallSteps.{CallStep, is_fault, steps_of}
-use Rattle.ssd_geo.specs.CallsInOrder.{is_no_later, is_of_call, never_fall}
-use Rattle.ssd_geo.specs.History.{is_same_tag}
-use Rattle.ssd_geo.specs.SerialCalls.{entry_of}
+use Rattle.ssd_histories.specs.CallSteps.{CallStep, is_fault, steps_of}
+use Rattle.ssd_histories.specs.CallsInOrder.{is_no_later, is_of_call, never_fall}
+use Rattle.ssd_histories.specs.History.{is_same_tag}
+use Rattle.ssd_histories.specs.SerialCalls.{entry_of}
 use Rattle.ssd_geo.specs.declared.entry.Entry.{Entry}
 use Rattle.ssd_geo.specs.declared.kind.Kind.{Kind}
 use Rattle.ssd_geo.specs.declared.tag.Tag.{Tag}

@@ -4,18 +4,18 @@ use Rattle.std.proofs.Common.{ℕ, zero, suc, ◌≡◌, ◌<◌, ◌==◌, Bool
 use Rattle.std.specs.Prelude.{All}
 use Rattle.std.specs.Option.{ForSome}
 use Rattle.std.proofs.lemmas.List.Elements.{All-nil, All-head, All-push, All-tail, All-weaker}
-use Rattle.ssd_geo.specs.CallSteps.{CallStep, position_of, steps_of}
-use Rattle.ssd_geo.specs.CallsInOrder.{ChannelRun}
+use Rattle.ssd_histories.specs.CallSteps.{CallStep, position_of, steps_of}
+use Rattle.ssd_histories.specs.CallsInOrder.{ChannelRun}
 use Rattle.ssd_geo.specs.Coding.{coding_of}
-use Rattle.ssd_geo.specs.History.{is_same_tag, look_made}
-use Rattle.ssd_geo.specs.PastPages.{sense_for}
-use Rattle.ssd_geo.specs.PlainMap.{AreCopiesRecovered, IsRecoveredPage, copies_after, copies_of, past_at, plain_of}
-use Rattle.ssd_geo.specs.Start.{Start}
+use Rattle.ssd_histories.specs.History.{is_same_tag, look_made}
+use Rattle.ssd_histories.specs.PastPages.{sense_for}
+use Rattle.ssd_histories.specs.PlainMap.{AreCopiesRecovered, IsRecoveredPage, copies_after, copies_of, past_at, plain_of}
+use Rattle.ssd_histories.specs.Start.{Start}
 use Rattle.ssd_geo.specs.declared.entry.Entry.{Entry}
 use Rattle.ssd_geo.specs.declared.kind.Kind.{Kind}
 use Rattle.ssd_geo.specs.declared.reply.Reply.{Reply}
 use Rattle.ssd_geo.specs.declared.tag.Tag.{Tag}
-use Rattle.run_laws.specs.Headline.{GivesLastWrite, GivesPlain}
+use Rattle.ssd_histories.specs.LastWrites.{GivesPlain, GivesLastWrite}
 use Rattle.run_laws.specs.ServedPasts.{IsPlainKind, IsPlainPast}
 use Rattle.run_laws.proofs.GrownLooks.{made_at, past_stays, recovered_before}
 use Rattle.run_laws.proofs.GrownPasts.{grown}

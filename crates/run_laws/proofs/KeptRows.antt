@@ -5,9 +5,9 @@ use Rattle.ssd_geo.specs.declared.kind.Kind.{Kind}
 use Rattle.ssd_geo.specs.declared.row.Row.{Row}
 use Rattle.ssd_geo.specs.declared.slot.Slot.{Slot}
 use Rattle.ssd_geo.specs.declared.tag.Tag.{Tag}
-use Rattle.ssd_geo.specs.PastRows.{row_of, serial_of}
-use Rattle.ssd_geo.specs.Start.{Start}
-use Rattle.ssd_geo.proofs.UsedSlots.{made}
+use Rattle.ssd_histories.specs.PastRows.{row_of, serial_of}
+use Rattle.ssd_histories.specs.Start.{Start}
+use Rattle.ssd_histories.proofs.UsedSlots.{made}
 use Rattle.run_laws.specs.FirstSenses.{NoPageIsLost}
 use Rattle.run_laws.specs.ServedPasts.{IsPlainKind}
 use Rattle.run_laws.proofs.BlankRows.{blank_row, newest_is_plain, past_is_plain}

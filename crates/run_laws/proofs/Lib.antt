@@ -2,6 +2,7 @@ pub mod AnsweredCalls
 pub mod BegunRuns
 pub mod BlankRows
 pub mod ChangedRuns
+pub mod CountedFaults
 pub mod CountedWrites
 pub mod FirstLadders
 pub mod GrownLooks
@@ -14,6 +15,7 @@ pub mod MadeChanges
 pub mod MadeReads
 pub mod NewCalls
 pub mod NumberedCalls
+pub mod PrintedRuns
 pub mod ReadPages
 pub mod RoomLeft
 pub mod RunHeadline
@@ -23,6 +25,11 @@ pub mod ServedOrder
 pub mod ServedReads
 pub mod ServedRoom
 pub mod ServedVerbs
+pub mod SparedChannels
+pub mod SpelledCalls
+pub mod SpelledHistories
+pub mod SpelledLadders
+pub mod SpelledPasts
 pub mod StoppedRuns
 pub mod UnservedCalls
 pub mod UsedRoom

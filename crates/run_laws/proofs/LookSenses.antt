@@ -11,17 +11,17 @@ use Rattle.ssd_geo.specs.declared.row.Row.{Row}
 use Rattle.ssd_geo.specs.declared.tag.Tag.{Tag}
 use Rattle.ssd_geo.specs.Cells.{sensed}
 use Rattle.ssd_geo.specs.Coding.{Coding}
-use Rattle.ssd_geo.specs.History.{look_by, open_looks}
+use Rattle.ssd_histories.specs.History.{look_by, open_looks}
 use Rattle.ssd_geo.specs.Ladder.{LadderState}
-use Rattle.ssd_geo.specs.Lawful.{IsLawfulBy, IsLawfulKind, IsLawfulSense}
-use Rattle.ssd_geo.specs.OpenLooks.{began_at, look_at}
-use Rattle.ssd_geo.specs.PastPages.{levels_in, page_of, senses_of}
-use Rattle.ssd_geo.specs.Start.{Start}
-use Rattle.ssd_geo.proofs.OpenLookLaws.{all_left}
-use Rattle.ssd_geo.proofs.UsedSlots.{made}
+use Rattle.ssd_histories.specs.Lawful.{IsLawfulBy, IsLawfulKind, IsLawfulSense}
+use Rattle.ssd_histories.specs.OpenLooks.{began_at, look_at}
+use Rattle.ssd_histories.specs.PastPages.{levels_in, page_of, senses_of}
+use Rattle.ssd_histories.specs.Start.{Start}
+use Rattle.ssd_histories.proofs.OpenLookLaws.{all_left}
+use Rattle.ssd_histories.proofs.UsedSlots.{made}
 
 -- a look began before a position
-abbrev BeganBelow : ℕ → Tag × Look → Type 0
+abbrev pub BeganBelow : ℕ → Tag × Look → Type 0
 BeganBelow position pin = pin.1.at < position
 
 later : (position : ℕ) (pins : List (Tag × Look)) → All (BeganBelow position) pins → All (BeganBelow (suc position)) pins
@@ -46,12 +46,12 @@ began_step past tag (Kind.Leave left) h =
     all_left (BeganBelow (suc (length past))) (open_looks past) left (later (length past) (open_looks past) h)
 began_step past tag kind h = later (length past) (open_looks past) h
 
-open_looks_began : (past : List Entry) → All (BeganBelow (length past)) (open_looks past)
+pub open_looks_began : (past : List Entry) → All (BeganBelow (length past)) (open_looks past)
 open_looks_began [] = All-nil (BeganBelow 0)
 open_looks_began (entry ∷ past) = began_step past entry.tag entry.kind (open_looks_began past)
 
 -- the open look that is found at a position began there, so below the past's length
-found_below : (position at : ℕ) (tag : Tag) (pins : List (Tag × Look)) (P : Look → Type 0) → All (BeganBelow position) pins → IsSomeAnd (look_by tag (look_at pins at)) P → at < position
+pub found_below : (position at : ℕ) (tag : Tag) (pins : List (Tag × Look)) (P : Look → Type 0) → All (BeganBelow position) pins → IsSomeAnd (look_by tag (look_at pins at)) P → at < position
 found_below position at tag [] P h some = absurd some
 found_below position at tag (pin ∷ pins) P h some =
     by_test (began_at at pin) refl (found_below position at tag pins P (All-tail (BeganBelow position) pin pins h)) some

@@ -5,26 +5,26 @@ use Rattle.std.proofs.Common.{ℕ, ◌≡◌, ◌≢◌, ◌<◌, ◌+◌, ◌%�
 use Rattle.std.specs.Prelude.{All, ◌==◌, IsTrue, slice_get, IsSomeAnd, ⊤}
 use Rattle.std.proofs.lemmas.List.Elements.{All-head, All-tail}
 use Rattle.std.proofs.lemmas.List.Sums.{sum_by-cons}
-use Rattle.ssd_geo.specs.CallSteps.{CallStep, steps_of}
-use Rattle.ssd_geo.specs.CallsInOrder.{AreStepsOf, ChannelRun, IsReplyBy, OfRun, OnOwnChannel, TookAtMost, is_age_of, is_trim_of}
+use Rattle.ssd_histories.specs.CallSteps.{CallStep, steps_of}
+use Rattle.ssd_histories.specs.CallsInOrder.{AreStepsOf, ChannelRun, IsReplyBy, OfRun, OnOwnChannel, TookAtMost, is_age_of, is_trim_of}
 use Rattle.ssd_geo.specs.Coding.{coding_of}
-use Rattle.ssd_geo.specs.Copies.{IsRead}
-use Rattle.ssd_geo.specs.History.{open_looks}
+use Rattle.ssd_histories.specs.Copies.{IsRead}
+use Rattle.ssd_histories.specs.History.{open_looks}
 use Rattle.ssd_geo.specs.Ladder.{LadderState}
-use Rattle.ssd_geo.specs.PastPages.{ladder_of, sense_for}
-use Rattle.ssd_geo.specs.Rounds.{IsWrite, is_one}
-use Rattle.ssd_geo.specs.RunText.{is_hinted, taken_by}
-use Rattle.ssd_geo.specs.SerialCalls.{entry_of}
-use Rattle.ssd_geo.specs.SerialHistory.{OnChannel, SerialCall, SerialState, with_hint, with_past}
-use Rattle.ssd_geo.specs.Start.{Start, data_of}
+use Rattle.ssd_histories.specs.PastPages.{ladder_of, sense_for}
+use Rattle.ssd_histories.specs.Rounds.{IsWrite, is_one}
+use Rattle.ssd_formats.specs.RunText.{is_hinted, taken_by}
+use Rattle.ssd_histories.specs.SerialCalls.{entry_of}
+use Rattle.ssd_histories.specs.SerialHistory.{OnChannel, SerialCall, SerialState, with_hint, with_past}
+use Rattle.ssd_histories.specs.Start.{Start, data_of}
 use Rattle.ssd_geo.specs.declared.base.ChannelBase.{ChannelBase}
 use Rattle.ssd_geo.specs.declared.entry.Entry.{Entry}
 use Rattle.ssd_geo.specs.declared.kind.Kind.{Kind}
 use Rattle.ssd_geo.specs.declared.reply.Reply.{Reply}
 use Rattle.ssd_geo.specs.declared.tag.Tag.{Tag}
 use Rattle.ssd_geo.specs.declared.trace.Verb.{Verb}
-use Rattle.run_laws.specs.Headline.{ReadsLastWrite}
-use Rattle.run_laws.specs.ServedPasts.{IsData, IsPlainKind}
+use Rattle.ssd_histories.specs.LastWrites.{IsData, ReadsLastWrite}
+use Rattle.run_laws.specs.ServedPasts.{IsPlainKind}
 use Rattle.run_laws.specs.ServedRuns.{channel_of}
 use Rattle.run_laws.specs.WrittenRoom.{is_write, is_write_to, writes_in}
 use Rattle.run_laws.proofs.GrownPasts.{faults_in, grown}

@@ -3,17 +3,17 @@ use Rattle.std.proofs.Common.{ℕ, ◌≡◌, ◌+◌, ◌%◌, ◌/◌, true, f
 use Rattle.std.specs.Prelude.{All, ◌==◌, IsTrue, IsSomeAnd, slice_get}
 use Rattle.std.proofs.lemmas.List.Elements.{All-nil, All-cons}
 use Rattle.std.proofs.lemmas.List.Sums.{sum_by-cons}
-use Rattle.ssd_geo.specs.CallSteps.{steps_of}
-use Rattle.ssd_geo.specs.CallsInOrder.{AreStepsOf, is_age_of, is_trim_of, ladder_in, steps_on}
+use Rattle.ssd_histories.specs.CallSteps.{steps_of}
+use Rattle.ssd_histories.specs.CallsInOrder.{AreStepsOf, is_age_of, is_trim_of, ladder_in, steps_on}
 use Rattle.ssd_geo.specs.Coding.{coding_of}
 use Rattle.ssd_geo.specs.Ladder.{LadderState}
-use Rattle.ssd_geo.specs.PastPages.{ladder_of, sense_for}
-use Rattle.ssd_geo.specs.Replies.{single_reply, write_reply}
-use Rattle.ssd_geo.specs.Room.{has_host_room}
-use Rattle.ssd_geo.specs.Rounds.{IsWrite, IsWritePart, is_one}
-use Rattle.ssd_geo.specs.SerialCalls.{SerialWrite, entry_of, writes}
-use Rattle.ssd_geo.specs.SerialHistory.{HasForm}
-use Rattle.ssd_geo.specs.Start.{Start, data_of}
+use Rattle.ssd_histories.specs.PastPages.{ladder_of, sense_for}
+use Rattle.ssd_histories.specs.Replies.{single_reply, write_reply}
+use Rattle.ssd_histories.specs.Room.{has_host_room}
+use Rattle.ssd_histories.specs.Rounds.{IsWrite, IsWritePart, is_one}
+use Rattle.ssd_histories.specs.SerialCalls.{SerialWrite, entry_of, writes}
+use Rattle.ssd_histories.specs.SerialHistory.{HasForm}
+use Rattle.ssd_histories.specs.Start.{Start, data_of}
 use Rattle.ssd_geo.specs.declared.base.ChannelBase.{ChannelBase}
 use Rattle.ssd_geo.specs.declared.entry.Entry.{Entry}
 use Rattle.ssd_geo.specs.declared.kind.Kind.{Kind}
@@ -22,9 +22,10 @@ use Rattle.ssd_geo.specs.declared.slot.Slot.{Slot}
 use Rattle.ssd_geo.specs.declared.tag.Tag.{Tag}
 use Rattle.ssd_geo.specs.declared.trace.Content.{Content}
 use Rattle.ssd_geo.specs.declared.trace.Verb.{Verb}
-use Rattle.ssd_geo.proofs.TextLaws.{same_byte}
-use Rattle.run_laws.specs.ServedCalls.{after_age, after_trim, after_write}
-use Rattle.run_laws.specs.ServedPasts.{IsData, IsPlainKind}
+use Rattle.ssd_formats.proofs.TextLaws.{same_byte}
+use Rattle.ssd_histories.specs.ServedCalls.{after_age, after_trim, after_write}
+use Rattle.run_laws.specs.ServedPasts.{IsPlainKind}
+use Rattle.ssd_histories.specs.LastWrites.{IsData}
 use Rattle.run_laws.specs.WrittenRoom.{is_write, writes_in}
 use Rattle.run_laws.proofs.GrownPasts.{faults_in, one_step_more}
 use Rattle.run_laws.proofs.MadeCalls.{IsMade, no_more_writes, on_channel, on_own, on_run, one_step, one_write}

@@ -4,18 +4,18 @@ use Rattle.std.proofs.Common.{ℕ, ◌≡◌, ◌<◌, ◌==◌, Bool, true, fal
 use Rattle.std.specs.Prelude.{All, nat_lt, IsTrue, IsSomeAnd, unwrap_or}
 use Rattle.std.specs.Option.{ForSome}
 use Rattle.std.proofs.lemmas.List.Elements.{All-nil, All-cons}
-use Rattle.ssd_geo.specs.CallSteps.{CallStep, position_of, steps_of}
+use Rattle.ssd_histories.specs.CallSteps.{CallStep, position_of, steps_of}
 use Rattle.ssd_geo.specs.Coding.{coding_of}
-use Rattle.ssd_geo.specs.Copies.{IsRead}
-use Rattle.ssd_geo.specs.History.{look_made, look_of, open_looks}
-use Rattle.ssd_geo.specs.Ladder.{LadderState, asks, has_answer, recovered, uncorrectable}
-use Rattle.ssd_geo.specs.Lawful.{IsLawful}
-use Rattle.ssd_geo.specs.PastPages.{ladder_of, ladder_over, page_of, senses_of, word_of_page}
-use Rattle.ssd_geo.specs.PlainMap.{HasRecovered, PlainRow, bytes, past_at, plain_of, word_looked_at}
-use Rattle.ssd_geo.specs.Ranges.{has_row}
-use Rattle.ssd_geo.specs.Replies.{bytes_of_word, first_reply, read_decided, read_reply, reply_of_ladder}
-use Rattle.ssd_geo.specs.SerialCalls.{AreStepsFrom, entry_of}
-use Rattle.ssd_geo.specs.Start.{Start}
+use Rattle.ssd_histories.specs.Copies.{IsRead}
+use Rattle.ssd_histories.specs.History.{look_made, look_of, open_looks}
+use Rattle.ssd_geo.specs.Ladder.{LadderState, asks, has_answer, recovered, uncorrectable, ladder_over}
+use Rattle.ssd_histories.specs.Lawful.{IsLawful}
+use Rattle.ssd_histories.specs.PastPages.{ladder_of, page_of, senses_of, word_of_page}
+use Rattle.ssd_histories.specs.PlainMap.{HasRecovered, PlainRow, bytes, past_at, plain_of, word_looked_at}
+use Rattle.ssd_histories.specs.Ranges.{has_row}
+use Rattle.ssd_histories.specs.Replies.{bytes_of_word, first_reply, read_decided, read_reply, reply_of_ladder}
+use Rattle.ssd_histories.specs.SerialCalls.{AreStepsFrom, entry_of}
+use Rattle.ssd_histories.specs.Start.{Start}
 use Rattle.ssd_geo.specs.Stripe.{place_of_slot}
 use Rattle.ssd_geo.specs.declared.entry.Entry.{Entry}
 use Rattle.ssd_geo.specs.declared.kind.Kind.{Kind}
@@ -25,9 +25,9 @@ use Rattle.ssd_geo.specs.declared.reply.Reply.{Reply}
 use Rattle.ssd_geo.specs.declared.row.Row.{Row}
 use Rattle.ssd_geo.specs.declared.slot.Slot.{Slot}
 use Rattle.ssd_geo.specs.declared.tag.Tag.{Tag}
-use Rattle.ssd_geo.proofs.TextLaws.{same_byte}
-use Rattle.run_laws.specs.Headline.{GivesLastWrite, GivesPlain}
-use Rattle.run_laws.specs.ServedCalls.{after_leave, after_look, after_sensing}
+use Rattle.ssd_formats.proofs.TextLaws.{same_byte}
+use Rattle.ssd_histories.specs.LastWrites.{GivesPlain, GivesLastWrite}
+use Rattle.ssd_histories.specs.ServedCalls.{after_leave, after_look, after_sensing}
 use Rattle.run_laws.specs.ServedPasts.{IsPlainPast}
 use Rattle.run_laws.proofs.GrownLooks.{look_stays, past_at_end, past_stays}
 use Rattle.run_laws.proofs.GrownPasts.{grown, one_step_more}

@@ -5,19 +5,20 @@ use Rattle.std.specs.Prelude.{All, count_by, sum_by, slice_set, slice_index_or}
 use Rattle.std.specs.List.{enumerate_from}
 use Rattle.std.proofs.lemmas.List.Elements.{All-cons, All-head, All-set, All-tail, All-weaker}
 use Rattle.std.proofs.lemmas.List.Sums.{sum_by-set, sum_by_push}
-use Rattle.ssd_geo.specs.CallsInOrder.{AreCallSteps, AreStepsOf, ChannelRun, IsWhole, hints_taken, ladder_in, steps_on}
-use Rattle.ssd_geo.specs.RunText.{taken_by}
-use Rattle.ssd_geo.specs.SerialCalls.{entry_of}
-use Rattle.ssd_geo.specs.Start.{Start}
-use Rattle.ssd_geo.specs.TraceText.{contents_of, is_of_actor}
+use Rattle.ssd_histories.specs.CallsInOrder.{AreCallSteps, AreNumberedAfter, AreStepsOf, ChannelRun, IsWhole, hints_taken, ladder_in, steps_on}
+use Rattle.ssd_formats.specs.RunText.{taken_by}
+use Rattle.ssd_histories.specs.SerialCalls.{entry_of}
+use Rattle.ssd_histories.specs.Start.{Start}
+use Rattle.ssd_formats.specs.TraceText.{contents_of, is_of_actor}
 use Rattle.ssd_geo.specs.declared.entry.Entry.{Entry}
 use Rattle.ssd_geo.specs.declared.kind.Kind.{Kind}
 use Rattle.ssd_geo.specs.declared.reply.Reply.{Reply}
 use Rattle.ssd_geo.specs.declared.tag.Tag.{Tag}
 use Rattle.ssd_geo.specs.declared.trace.TraceCall.{TraceCall}
 use Rattle.ssd_geo.specs.declared.trace.Verb.{Verb}
-use Rattle.run_laws.specs.ServedPasts.{IsData, IsPlainKind}
-use Rattle.run_laws.specs.ServedRuns.{AreNumberedAfter, HasData, channel_of, with_reply}
+use Rattle.ssd_histories.specs.LastWrites.{IsData}
+use Rattle.run_laws.specs.ServedPasts.{IsPlainKind}
+use Rattle.run_laws.specs.ServedRuns.{HasData, channel_of, with_reply}
 use Rattle.run_laws.proofs.AnsweredCalls.{other_replies, own_replies}
 use Rattle.run_laws.proofs.ChangedRuns.{all_at, all_channels, one_or_other, sum_of_none}
 use Rattle.run_laws.proofs.GrownPasts.{faults_in, grown}

@@ -6,17 +6,17 @@ use Rattle.std.specs.List.{cons_option, list_any}
 use Rattle.std.proofs.lemmas.Bool.Decides.{nat_tests}
 use Rattle.std.proofs.lemmas.List.Elements.{All-nil, All-cons, All-head, All-tail}
 use Rattle.std.proofs.lemmas.List.Sums.{sum_by-append, sum_by-cons}
-use Rattle.ssd_geo.specs.CallsInOrder.{is_no_later, is_of_call}
-use Rattle.ssd_geo.specs.History.{is_same_tag}
-use Rattle.ssd_geo.specs.Start.{data_of}
-use Rattle.ssd_geo.specs.TraceText.{content_bytes, contents_of, is_of_actor, written_by}
+use Rattle.ssd_histories.specs.CallsInOrder.{AreNumberedAfter, IsNumberedAfter, is_no_later, is_of_call}
+use Rattle.ssd_histories.specs.History.{is_same_tag}
+use Rattle.ssd_histories.specs.Start.{data_of}
+use Rattle.ssd_formats.specs.TraceText.{content_bytes, contents_of, is_of_actor, written_by}
 use Rattle.ssd_geo.specs.declared.entry.Entry.{Entry}
 use Rattle.ssd_geo.specs.declared.tag.Tag.{Tag}
 use Rattle.ssd_geo.specs.declared.trace.Content.{Content}
 use Rattle.ssd_geo.specs.declared.trace.TraceCall.{TraceCall}
 use Rattle.ssd_geo.specs.declared.trace.Verb.{Verb}
-use Rattle.ssd_geo.proofs.TextLaws.{same_byte}
-use Rattle.run_laws.specs.ServedRuns.{AreNumberedAfter, IsNumberedAfter, TagsGiveData}
+use Rattle.ssd_formats.proofs.TextLaws.{same_byte}
+use Rattle.run_laws.specs.ServedRuns.{TagsGiveData}
 
 -- tests that hold together, and one of two that holds
 pub both : (a b : Bool) → (a && b) ≡ true → (a ≡ true) × (b ≡ true)

@@ -9,15 +9,15 @@ use Rattle.ssd_geo.specs.declared.slot.Slot.{Slot}
 use Rattle.ssd_geo.specs.declared.tag.Tag.{Tag}
 use Rattle.ssd_geo.specs.Cells.{sensed}
 use Rattle.ssd_geo.specs.Coding.{Coding, coding_of}
-use Rattle.ssd_geo.specs.History.{look_of}
-use Rattle.ssd_geo.specs.Ladder.{asks, other_places, recovered}
-use Rattle.ssd_geo.specs.PastPages.{ladder_of, ladder_over, levels_in, page_of, senses_of}
-use Rattle.ssd_geo.specs.PlainMap.{bytes, plain_of}
-use Rattle.ssd_geo.specs.Replies.{bytes_of_word}
-use Rattle.ssd_geo.specs.Start.{Start}
+use Rattle.ssd_histories.specs.History.{look_of}
+use Rattle.ssd_geo.specs.Ladder.{asks, other_places, recovered, ladder_over}
+use Rattle.ssd_histories.specs.PastPages.{ladder_of, levels_in, page_of, senses_of}
+use Rattle.ssd_histories.specs.PlainMap.{bytes, plain_of}
+use Rattle.ssd_histories.specs.Replies.{bytes_of_word}
+use Rattle.ssd_histories.specs.Start.{Start}
 use Rattle.ssd_geo.specs.Stripe.{place_of_slot}
 use Rattle.run_laws.specs.FirstSenses.{PagesAreReadAtOnce, ReadsBack, WordIsRead, after_sense, first_sense}
-use Rattle.run_laws.specs.ServedCalls.{after_look}
+use Rattle.ssd_histories.specs.ServedCalls.{after_look}
 use Rattle.run_laws.proofs.FirstLadders.{asks_first, recovers_first}
 use Rattle.run_laws.proofs.LookSenses.{none_sensed}
 use Rattle.run_laws.proofs.WrittenPages.{HasFreshCells, HoldsWord, rows_have_fresh_cells}

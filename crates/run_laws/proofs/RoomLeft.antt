@@ -6,8 +6,8 @@ use Rattle.std.proofs.lemmas.Bool.{and_parts, leb-true, ltb-true}
 use Rattle.std.proofs.lemmas.Bool.Decides.{nat_tests}
 use Rattle.std.proofs.lemmas.List.Quantifiers.{position-Some}
 use Rattle.std.proofs.lemmas.List.Sums.{fails_before_first, sum_by-cons, sum_by_more_le}
-use Rattle.ssd_geo.specs.Blocks.{blank_block, count_of_free, has_due_used, has_host_room, is_due_block, is_free_block, is_frontier_block}
-use Rattle.ssd_geo.specs.States.{is_free, is_frontier}
+use Rattle.ssd_histories.specs.Blocks.{blank_block, free_blocks_in, has_due_used, blocks_have_room, is_due_block, is_free_block, is_frontier_block}
+use Rattle.ssd_histories.specs.States.{is_free, is_frontier}
 use Rattle.ssd_geo.specs.declared.base.BlockBase.{BlockBase}
 use Rattle.ssd_geo.specs.declared.superblock.SbState.{SbState}
 use Rattle.ssd_geo.specs.declared.superblock.SbState.TheVariants.{Free, Frontier, Sealed, Bad, Victim}
@@ -57,11 +57,11 @@ both_left slots a b c free frontiers left one rest =
     record { least = omega (arith, one.least, rest.least); most = omega (arith, one.most, rest.most) }
 
 are_left : (slots : ℕ) (blocks : List BlockBase) → list_all (is_due_block slots) blocks ≡ true
-    → AreLeft slots (count_of_free blocks) (count_of_frontiers blocks) (left_in slots blocks)
+    → AreLeft slots (free_blocks_in blocks) (count_of_frontiers blocks) (left_in slots blocks)
 are_left slots [] due = record { least = omega arith; most = omega arith }
 are_left slots (block ∷ blocks) due =
     let parts = and_parts (is_due_block slots block) (list_all (is_due_block slots) blocks) due in
-    let free : count_of_free (block ∷ blocks) ≡ one_if (is_free block.state) + count_of_free blocks =
+    let free : free_blocks_in (block ∷ blocks) ≡ one_if (is_free block.state) + free_blocks_in blocks =
     sum_by-cons (λ (other : BlockBase). one_if (is_free_block other)) block blocks in
     let frontiers : count_of_frontiers (block ∷ blocks) ≡ one_if (is_frontier block.state) + count_of_frontiers blocks =
     sum_by-cons (λ (other : BlockBase). one_if (is_frontier_block other)) block blocks in
@@ -146,10 +146,10 @@ found_counted p xs d = by_place (position p xs) refl
 -- the host has room exactly while fewer pages were written than the good superblocks but one have slots
 pub room_left : (slots : ℕ) (blocks : List BlockBase) (good written : ℕ) → 1 ≤ slots → count_of_frontiers blocks ≤ 1
     → list_all (is_due_block slots) blocks ≡ true → left_in slots blocks + written ≡ good * slots
-    → has_host_room blocks ≡ nat_lt written ((good - 1) * slots)
+    → blocks_have_room blocks ≡ nat_lt written ((good - 1) * slots)
 room_left slots blocks good written some one due all =
-    ap {B = Bool} (λ (b : Bool). b && nat_le 1 (count_of_free blocks) || nat_le 2 (count_of_free blocks))
+    ap {B = Bool} (λ (b : Bool). b && nat_le 1 (free_blocks_in blocks) || nat_le 2 (free_blocks_in blocks))
     (found_counted is_frontier_block blocks blank_block)
-    ∙ more_left slots (count_of_free blocks) (count_of_frontiers blocks) (left_in slots blocks) some one
+    ∙ more_left slots (free_blocks_in blocks) (count_of_frontiers blocks) (left_in slots blocks) some one
     (are_left slots blocks due)
     ∙ sym (fewer_written slots good (left_in slots blocks) written all)

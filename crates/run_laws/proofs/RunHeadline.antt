@@ -1,6 +1,6 @@
 -- The statement on a whole run, from what holds after some calls were served: these have their replies, and the
 -- calls after them have no entry and no reply. So it holds when all calls were served.
-use Rattle.std.proofs.Common.{ℕ, ◌≡◌, ◌+◌, ◌-◌, ◌<◌, ◌≤◌, ◌==◌, Bool, true, false, nat_lt, List, [], ◌∷◌, ◌++◌, None, length, map, filter, refl, sym, ap, subst, ◌∙◌, append-nil, arith, lt-ltb}
+use Rattle.std.proofs.Common.{ℕ, ◌≡◌, ◌-◌, ◌<◌, ◌≤◌, ◌==◌, Bool, true, false, nat_lt, List, [], ◌++◌, None, length, filter, sym, ap, subst, ◌∙◌, append-nil, arith, lt-ltb}
 use Rattle.std.specs.Prelude.{All, IsTrue, count_by, is_some, slice_index_or}
 use Rattle.std.specs.List.{list_all}
 use Rattle.std.specs.Option.{ForSome}
@@ -9,60 +9,29 @@ use Rattle.std.proofs.lemmas.List.{length-map}
 use Rattle.std.proofs.lemmas.List.Elements.{All-append, All-nil, All-weaker}
 use Rattle.std.proofs.lemmas.List.Sums.{length-filter, list_all-from_AllPass}
 use Rattle.std.proofs.lemmas.Option.{get_or_from_slice_get, none-some, slice_get_within}
-use Rattle.ssd_geo.specs.CallSteps.{steps_of}
-use Rattle.ssd_geo.specs.CallsInOrder.{AreCallsInOrder, AreReplies, ChannelRun, IsAsAnswered, IsNotMade, IsReplyOf, IsWhole, answered_by, is_of_call, never_fall, reply_to}
-use Rattle.ssd_geo.specs.History.{history_of, open_looks}
-use Rattle.ssd_geo.specs.ImageContents.{Saved}
-use Rattle.ssd_geo.specs.ImageHead.{Head}
-use Rattle.ssd_geo.specs.Input.{Input}
-use Rattle.ssd_geo.specs.Lawful.{IsLawful}
-use Rattle.ssd_geo.specs.SerialHistory.{AreServed, SerialState, first_state, most_hints}
-use Rattle.ssd_geo.specs.Start.{Start}
-use Rattle.ssd_geo.specs.TraceText.{is_of_actor, kind_of_verb, kinds_of_actor}
+use Rattle.ssd_histories.specs.CallSteps.{steps_of}
+use Rattle.ssd_histories.specs.CallsInOrder.{AreCallsInOrder, AreReplies, ChannelRun, IsAsAnswered, IsNotMade, IsReplyOf, IsWhole, answered_by, is_of_call, never_fall, reply_to, AreNumberedAfter}
+use Rattle.ssd_histories.specs.History.{open_looks}
+use Rattle.ssd_formats.specs.Input.{Input}
+use Rattle.ssd_histories.specs.Lawful.{IsLawful}
+use Rattle.ssd_histories.specs.SerialHistory.{SerialState, most_hints}
+use Rattle.ssd_histories.specs.Start.{Start}
+use Rattle.ssd_formats.specs.TraceText.{is_of_actor, kind_of_verb, kinds_of_actor}
 use Rattle.ssd_geo.specs.declared.entry.Entry.{Entry}
 use Rattle.ssd_geo.specs.declared.reply.Reply.{Reply}
 use Rattle.ssd_geo.specs.declared.tag.Tag.{Tag}
 use Rattle.ssd_geo.specs.declared.trace.TraceCall.{TraceCall}
-use Rattle.run_laws.specs.Headline.{AreRunsOf, Headline, ReadsLastWrite, contents_in}
+use Rattle.run_laws.specs.Headline.{Headline}
+use Rattle.ssd_histories.specs.LastWrites.{ReadsLastWrite}
+use Rattle.run_laws.specs.ServedRuns.{contents_in, ChannelsHold, HoldsOfRun, IsAnswered, IsServedRun, ServedRunsHold, hints_in, run_of_input}
+use Rattle.run_laws.specs.Runs.{FaultCounts, runs_with}
 use Rattle.run_laws.specs.ServedPasts.{IsPlainPast}
-use Rattle.run_laws.specs.ServedRuns.{AreNumberedAfter, AreStartsOf, HoldsOfRun, IsAnswered, IsServedRun, ServedRunsHold, hints_in, runs_with}
 use Rattle.run_laws.specs.StoppedRuns.{IsPlainVerb}
-use Rattle.run_laws.proofs.ChangedRuns.{all_both, all_numbered, all_of_pasts, runs_as_many}
+use Rattle.run_laws.proofs.ChangedRuns.{all_both, all_numbered, all_of_pasts}
 use Rattle.run_laws.proofs.GrownPasts.{known_with_more, no_steps, past_is_below}
 use Rattle.run_laws.proofs.MadeReads.{same_held}
 use Rattle.run_laws.proofs.NumberedCalls.{IsBelow, actors_are_below, counts_in, numbered_front, numbers_are_below}
 use Rattle.run_laws.proofs.UnservedCalls.{IsLater, are_later, as_unanswered, begun_with_none, counts_grow, no_reply_to}
-
--- the runs are those of the image's channels
-pub runs_begin : (head : Head) (channel : ℕ) (saved : List Saved) (starts : List Start)
-    (pasts : List (List Entry)) → length pasts ≡ length starts →
-    AreStartsOf head channel saved starts → AreRunsOf head channel saved (runs_with starts pasts)
-runs_begin head channel [] [] pasts many are = tt
-runs_begin head channel [] (start ∷ starts) pasts many are = absurd are
-runs_begin head channel (first ∷ more) [] pasts many are = absurd are
-runs_begin head channel (first ∷ more) (start ∷ starts) [] many are = absurd (omega arith)
-runs_begin head channel (first ∷ more) (start ∷ starts) (past ∷ pasts) many are =
-    (are.0, runs_begin head (channel + 1) more starts pasts (omega arith) are.1)
-
--- and their histories are printed
-pub are_printed : (starts : List Start) (pasts : List (List Entry)) → length pasts ≡ length starts →
-    map history_of pasts ≡ map (λ run. history_of run.past) (runs_with starts pasts)
-are_printed [] [] many = refl
-are_printed [] (past ∷ pasts) many = absurd (omega arith)
-are_printed (start ∷ starts) [] many = absurd (omega arith)
-are_printed (start ∷ starts) (past ∷ pasts) many =
-    ap {B = List (List Entry)} (λ (histories : List (List Entry)). history_of past ∷ histories)
-    (are_printed starts pasts (omega arith))
-
--- and each began with its start
-starts_of_runs : (starts : List Start) (pasts : List (List Entry)) → length pasts ≡ length starts →
-    map (λ run. run.start) (runs_with starts pasts) ≡ starts
-starts_of_runs [] [] many = refl
-starts_of_runs [] (past ∷ pasts) many = absurd (omega arith)
-starts_of_runs (start ∷ starts) [] many = absurd (omega arith)
-starts_of_runs (start ∷ starts) (past ∷ pasts) many =
-    ap {B = List Start} (λ (more : List Start). start ∷ more)
-    (starts_of_runs starts pasts (omega arith))
 
 -- an actor has as many kinds of calls as calls
 pub kinds_are_calls : (calls : List TraceCall) (actor : ℕ) →
@@ -147,7 +116,7 @@ module _ {input : Input} {starts : List Start} {done rest : List TraceCall}
       reply_to replies call.tag ≡ None
   has_no_reply call is_later = no_reply_to replies call.tag (few_answered call is_later)
 
-  isnt_made : (call : TraceCall) → IsLater (counts_in done) input.calls.actors call →
+  pub isnt_made : (call : TraceCall) → IsLater (counts_in done) input.calls.actors call →
       IsNotMade runs call
   isnt_made call is_later =
       all_of_pasts (λ past. steps_of call.tag past ≡ []) starts pasts
@@ -258,15 +227,15 @@ module _ {input : Input} {starts : List Start} {done rest : List TraceCall}
       (λ (run : ChannelRun). IsLawful run.start (contents_in input) run.past)
       (λ run is_plain. is_plain.is_lawful) runs served.are_plain
 
-  abbrev pub headline : Headline input (map history_of pasts) replies
-  headline = record {
-    runs = runs;
-    are_runs =
-        runs_begin input.head 0 input.channels starts pasts served.as_many
-        served.is_served_from.are_starts;
+  abbrev pub headline : (faults : List FaultCounts) → ChannelsHold input starts pasts faults →
+      Headline input.head (run_of_input input starts replies pasts faults)
+  headline faults hold = record {
+    as_many_pasts = served.as_many;
     as_many_actors = served.as_many_actors;
-    are_printed = are_printed starts pasts served.as_many;
-    are_lawful = are_lawful;
+    are_pasts = hold.are_pasts;
+    have_room = hold.have_room;
+    are_counted = hold.are_counted;
+    are_spelled = hold.are_spelled;
     in_order = in_order;
     are_replies = are_replies;
     last_writes =
@@ -282,21 +251,11 @@ module _ {input : Input} {starts : List Start} {done rest : List TraceCall}
     dropped = hints_in replies - most_hints;
   }
 
-  -- the calls were served from the starts with which the runs begin
-  pub served_to : (channels : ℕ) (begun : List Start) → channels ≡ length starts → begun ≡ starts →
-      AreServed (contents_in input) replies channels done (first_state begun) state
-  served_to channels begun many same =
-      subst (λ n. AreServed (contents_in input) replies n done (first_state begun) state) (sym many)
-      (subst
-      (λ named. AreServed (contents_in input) replies (length starts) done (first_state named) state)
-      (sym same) served.are_served)
-
-  pub starts_are : map (λ run. run.start) runs ≡ starts
-  starts_are = starts_of_runs starts pasts served.as_many
-
 -- all calls were served
 module _ (input : Input) (starts : List Start) (replies : List (List Reply))
-    (pasts : List (List Entry)) (served : IsServedRun input starts input.calls.calls replies pasts) where
+    (pasts : List (List Entry)) (faults : List FaultCounts)
+    (served : IsServedRun input starts input.calls.calls replies pasts)
+    (hold : ChannelsHold input starts pasts faults) where
   abbrev so_far : HasServed input starts input.calls.calls [] replies pasts
   so_far = record {
     served = served;
@@ -304,25 +263,23 @@ module _ (input : Input) (starts : List Start) (replies : List (List Reply))
     plain_verbs = All-nil (λ (call : TraceCall). IsPlainVerb call.verb);
   }
 
-  holds_of_run : HoldsOfRun input replies pasts
+  holds_of_run : HoldsOfRun input (run_of_input input starts replies pasts faults)
   holds_of_run = record {
-    headline = headline so_far;
-    in_order = record {
+    headline = headline so_far faults hold;
+    is_whole = record {
       hints = served.hints;
-      are_served =
-          served_to so_far (length (runs_with starts pasts))
-          (map (λ run. run.start) (runs_with starts pasts))
-          (runs_as_many starts pasts served.as_many) (starts_are so_far);
+      are_served = served.are_served;
+      all_answered =
+          list_all-from_AllPass (λ call. is_some (reply_to replies call.tag)) input.calls.calls
+          (All-weaker (IsAnswered (contents_in input) (runs_with starts pasts) replies)
+          (λ call. is_some (reply_to replies call.tag) ≡ true)
+          (λ call answered. ap is_some answered.is_there) input.calls.calls served.are_answered);
     };
-    all_answered =
-        list_all-from_AllPass (λ call. is_some (reply_to replies call.tag)) input.calls.calls
-        (All-weaker (IsAnswered (contents_in input) (runs_with starts pasts) replies)
-        (λ call. is_some (reply_to replies call.tag) ≡ true)
-        (λ call answered. ap is_some answered.is_there) input.calls.calls served.are_answered);
     as_many_replies = λ actor below.
         served.counted actor below ∙ sym (kinds_are_calls input.calls.calls actor);
     none_taken = served.none_taken;
   }
 
 pub served_runs_hold : ServedRunsHold
-served_runs_hold input starts replies pasts served = holds_of_run input starts replies pasts served
+served_runs_hold input starts replies pasts faults served hold =
+    holds_of_run input starts replies pasts faults served hold

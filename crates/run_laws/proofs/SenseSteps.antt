@@ -5,20 +5,20 @@ use Rattle.std.specs.Prelude.{All}
 use Rattle.std.specs.List.{list_all}
 use Rattle.std.specs.Option.{ForSome}
 use Rattle.std.proofs.lemmas.List.Elements.{All-cons}
-use Rattle.ssd_geo.specs.CallSteps.{CallStep, is_sense_of, position_of, steps_of}
-use Rattle.ssd_geo.specs.History.{look_made, open_looks}
-use Rattle.ssd_geo.specs.Lawful.{IsLawfulBy}
+use Rattle.ssd_histories.specs.CallSteps.{CallStep, is_sense_of, position_of, steps_of}
+use Rattle.ssd_histories.specs.History.{look_made, open_looks}
+use Rattle.ssd_histories.specs.Lawful.{IsLawfulBy}
 use Rattle.ssd_geo.specs.Ladder.{LadderState}
-use Rattle.ssd_geo.specs.Replies.{first_reply}
-use Rattle.ssd_geo.specs.SerialCalls.{AreStepsFrom, entry_of}
+use Rattle.ssd_histories.specs.Replies.{first_reply}
+use Rattle.ssd_histories.specs.SerialCalls.{AreStepsFrom, entry_of}
 use Rattle.ssd_geo.specs.declared.base.ChannelBase.{ChannelBase}
 use Rattle.ssd_geo.specs.declared.entry.Entry.{Entry}
 use Rattle.ssd_geo.specs.declared.kind.Kind.{Kind}
 use Rattle.ssd_geo.specs.declared.look.Look.{Look}
 use Rattle.ssd_geo.specs.declared.place.Place.{Place}
 use Rattle.ssd_geo.specs.declared.tag.Tag.{Tag}
-use Rattle.ssd_geo.proofs.TextLaws.{same_byte}
-use Rattle.run_laws.specs.ServedCalls.{after_senses}
+use Rattle.ssd_formats.proofs.TextLaws.{same_byte}
+use Rattle.ssd_histories.specs.ServedCalls.{after_senses}
 use Rattle.run_laws.proofs.GrownPasts.{faults_in, grown, one_step_more}
 
 -- the kinds of some senses, the newest first, before older ones

@@ -4,19 +4,19 @@ use Rattle.std.specs.Prelude.{All, IsTrue, slice_get, slice_set}
 use Rattle.std.specs.List.{list_all}
 use Rattle.std.proofs.lemmas.List.Elements.{All-push, All-set, All-weaker}
 use Rattle.std.proofs.lemmas.Option.{slice_get_within}
-use Rattle.ssd_geo.specs.CallSteps.{steps_of}
-use Rattle.ssd_geo.specs.CallsInOrder.{ChannelRun, IsWhole, is_of_call, never_fall, reply_to, steps_on}
-use Rattle.ssd_geo.specs.History.{open_looks}
-use Rattle.ssd_geo.specs.Input.{Input}
-use Rattle.ssd_geo.specs.SerialHistory.{AreServed, SerialCall, SerialState, first_state, most_hints}
-use Rattle.ssd_geo.specs.Start.{Start}
-use Rattle.ssd_geo.specs.TraceText.{contents_of}
+use Rattle.ssd_histories.specs.CallSteps.{steps_of}
+use Rattle.ssd_histories.specs.CallsInOrder.{AreNumberedAfter, ChannelRun, IsNumberedAfter, IsWhole, is_of_call, never_fall, reply_to, steps_on}
+use Rattle.ssd_histories.specs.History.{open_looks}
+use Rattle.ssd_formats.specs.Input.{Input}
+use Rattle.ssd_histories.specs.SerialHistory.{AreServed, SerialCall, SerialState, first_state, most_hints}
+use Rattle.ssd_histories.specs.Start.{Start}
+use Rattle.ssd_formats.specs.TraceText.{contents_of}
 use Rattle.ssd_geo.specs.declared.entry.Entry.{Entry}
 use Rattle.ssd_geo.specs.declared.reply.Reply.{Reply}
 use Rattle.ssd_geo.specs.declared.trace.TraceCall.{TraceCall}
-use Rattle.run_laws.specs.Headline.{contents_in}
+use Rattle.run_laws.specs.ServedRuns.{contents_in, IsAnswered, IsServedRun, ServesNext, ServesOneMore, HasData, hints_in, with_reply}
+use Rattle.run_laws.specs.Runs.{runs_with}
 use Rattle.run_laws.specs.ServedPasts.{IsPlainKind, IsPlainPast}
-use Rattle.run_laws.specs.ServedRuns.{AreNumberedAfter, IsAnswered, IsNumberedAfter, IsServedRun, ServesNext, ServesOneMore, HasData, hints_in, runs_with, with_reply}
 use Rattle.run_laws.proofs.AnsweredCalls.{answered_stays, last_stays, new_reply_there, reply_there}
 use Rattle.run_laws.proofs.ServedVerbs.{call_is_made}
 use Rattle.run_laws.proofs.ChangedRuns.{all_at, all_both, all_of_pasts, get_set, run_at, runs_as_many, runs_changed}

@@ -4,9 +4,9 @@ use Rattle.std.proofs.Common.{ℕ, ◌≡◌, ◌<◌, ◌≤◌, ◌+◌, ◌-�
 use Rattle.std.specs.Prelude.{count_by, nat_lt, slice_index_or}
 use Rattle.std.proofs.lemmas.Bool.Decides.{nat_tests}
 use Rattle.std.proofs.lemmas.List.Sums.{sum_by-set, sum_by_push}
-use Rattle.ssd_geo.specs.CallsInOrder.{ChannelRun, reply_to}
-use Rattle.ssd_geo.specs.RunText.{is_hinted}
-use Rattle.ssd_geo.specs.SerialHistory.{AreServed, SerialCall, SerialState, most_hints, none_left, serves, with_hint}
+use Rattle.ssd_histories.specs.CallsInOrder.{ChannelRun, reply_to}
+use Rattle.ssd_formats.specs.RunText.{is_hinted}
+use Rattle.ssd_histories.specs.SerialHistory.{AreServed, SerialCall, SerialState, most_hints, none_left, serves, with_hint}
 use Rattle.ssd_geo.specs.declared.reply.Reply.{Reply}
 use Rattle.ssd_geo.specs.declared.tag.Tag.{Tag}
 use Rattle.ssd_geo.specs.declared.trace.TraceCall.{TraceCall}

@@ -6,19 +6,19 @@ use Rattle.std.specs.Option.{ForSome}
 use Rattle.std.proofs.lemmas.Bool.Decides.{nat_tests}
 use Rattle.std.proofs.lemmas.List.Elements.{All-nil, All-cons}
 use Rattle.std.proofs.lemmas.Option.{slice_get_within}
-use Rattle.ssd_geo.specs.CallSteps.{CallStep, is_look_of_none, position_of, steps_of}
-use Rattle.ssd_geo.specs.CallsInOrder.{AreStepsOf, ladder_in, steps_on}
+use Rattle.ssd_histories.specs.CallSteps.{CallStep, is_look_of_none, position_of, steps_of}
+use Rattle.ssd_histories.specs.CallsInOrder.{AreStepsOf, ladder_in, steps_on}
 use Rattle.ssd_geo.specs.Coding.{coding_of}
-use Rattle.ssd_geo.specs.Copies.{IsRead}
-use Rattle.ssd_geo.specs.History.{look_made, open_looks}
+use Rattle.ssd_histories.specs.Copies.{IsRead}
+use Rattle.ssd_histories.specs.History.{look_made, open_looks}
 use Rattle.ssd_geo.specs.Ladder.{LadderState, asks, recovered, uncorrectable}
-use Rattle.ssd_geo.specs.Lawful.{IsLawful}
-use Rattle.ssd_geo.specs.PastPages.{ladder_of, sense_for}
-use Rattle.ssd_geo.specs.Replies.{bytes_of_word, read_reply, reply_of_ladder}
-use Rattle.ssd_geo.specs.RunText.{is_hinted, taken_by}
-use Rattle.ssd_geo.specs.SerialCalls.{AreStepsFrom, entry_of}
-use Rattle.ssd_geo.specs.SerialHistory.{HasForm, SerialState, after_read, is_hint, reply_of_read, with_hint, with_past}
-use Rattle.ssd_geo.specs.Start.{Start}
+use Rattle.ssd_histories.specs.Lawful.{IsLawful}
+use Rattle.ssd_histories.specs.PastPages.{ladder_of, sense_for}
+use Rattle.ssd_histories.specs.Replies.{bytes_of_word, read_reply, reply_of_ladder}
+use Rattle.ssd_formats.specs.RunText.{is_hinted, taken_by}
+use Rattle.ssd_histories.specs.SerialCalls.{AreStepsFrom, entry_of}
+use Rattle.ssd_histories.specs.SerialHistory.{HasForm, SerialState, after_read, is_hint, reply_of_read, with_hint, with_past}
+use Rattle.ssd_histories.specs.Start.{Start}
 use Rattle.ssd_geo.specs.declared.entry.Entry.{Entry}
 use Rattle.ssd_geo.specs.declared.kind.Kind.{Kind}
 use Rattle.ssd_geo.specs.declared.look.Look.{Look}
@@ -28,9 +28,9 @@ use Rattle.ssd_geo.specs.declared.row.Row.{Row}
 use Rattle.ssd_geo.specs.declared.slot.Slot.{Slot}
 use Rattle.ssd_geo.specs.declared.tag.Tag.{Tag}
 use Rattle.ssd_geo.specs.declared.trace.Verb.{Verb}
-use Rattle.ssd_geo.proofs.TextLaws.{same_byte}
-use Rattle.run_laws.specs.Headline.{GivesLastWrite}
-use Rattle.run_laws.specs.ServedCalls.{after_leave, after_lone_look, after_sensing, reply_to_none}
+use Rattle.ssd_formats.proofs.TextLaws.{same_byte}
+use Rattle.ssd_histories.specs.LastWrites.{GivesLastWrite}
+use Rattle.ssd_histories.specs.ServedCalls.{after_leave, after_lone_look, after_sensing, reply_to_none}
 use Rattle.run_laws.specs.ServedPasts.{IsPlainKind, IsPlainPast}
 use Rattle.run_laws.specs.WrittenRoom.{is_write, writes_in}
 use Rattle.run_laws.proofs.ChangedRuns.{get_set}

@@ -2,16 +2,16 @@
 use Rattle.std.proofs.Common.{◌≡◌, ℕ, zero, suc, ◌≤◌, nat_lt, List, [], ◌∷◌, length, ap, subst, ◌∙◌, Option, Some, arith}
 use Rattle.std.specs.Prelude.{All, Bool, slice_get, unwrap_or}
 use Rattle.std.proofs.lemmas.List.Elements.{All-head, All-tail}
-use Rattle.ssd_geo.specs.CallsInOrder.{ChannelRun}
-use Rattle.ssd_geo.specs.Input.{Input}
-use Rattle.ssd_geo.specs.Room.{has_host_room}
-use Rattle.ssd_geo.specs.Start.{Start}
+use Rattle.ssd_histories.specs.CallsInOrder.{ChannelRun}
+use Rattle.ssd_formats.specs.Input.{Input}
+use Rattle.ssd_histories.specs.Room.{has_host_room}
+use Rattle.ssd_histories.specs.Start.{Start}
 use Rattle.ssd_geo.specs.declared.entry.Entry.{Entry}
 use Rattle.ssd_geo.specs.declared.reply.Reply.{Reply}
 use Rattle.ssd_geo.specs.declared.trace.TraceCall.{TraceCall}
-use Rattle.run_laws.specs.Headline.{contents_in}
+use Rattle.run_laws.specs.ServedRuns.{contents_in, IsServedRun, ServedRunsHaveRoom}
+use Rattle.run_laws.specs.Runs.{runs_with}
 use Rattle.run_laws.specs.ServedPasts.{IsPlainPast}
-use Rattle.run_laws.specs.ServedRuns.{IsServedRun, ServedRunsHaveRoom, runs_with}
 use Rattle.run_laws.specs.WrittenRoom.{HasBlankBlocks, pages_that_fit, writes_to}
 use Rattle.run_laws.proofs.WrittenRoom.{plain_pasts_fit, plain_pasts_have_room}
 

@@ -1,13 +1,13 @@
 -- Each call that is served made what its verb says.
 use Rattle.std.proofs.Common.{ℕ, ◌≡◌, ◌%◌, ◌/◌, List, [], Some, sym, subst, inl, inr}
-use Rattle.ssd_geo.specs.CallSteps.{steps_of}
-use Rattle.ssd_geo.specs.Lawful.{IsLawful}
-use Rattle.ssd_geo.specs.Start.{Start}
+use Rattle.ssd_histories.specs.CallSteps.{steps_of}
+use Rattle.ssd_histories.specs.Lawful.{IsLawful}
+use Rattle.ssd_histories.specs.Start.{Start}
 use Rattle.ssd_geo.specs.declared.entry.Entry.{Entry}
 use Rattle.ssd_geo.specs.declared.reply.Reply.{Reply}
 use Rattle.ssd_geo.specs.declared.tag.Tag.{Tag}
 use Rattle.ssd_geo.specs.declared.trace.Verb.{Verb}
-use Rattle.run_laws.specs.ServedCalls.{HasFoundNone, HasReadPage, IsServedBy}
+use Rattle.ssd_histories.specs.ServedCalls.{HasFoundNone, HasReadPage, IsServedBy}
 use Rattle.run_laws.specs.ServedPasts.{IsPlainPast}
 use Rattle.run_laws.specs.ServedRuns.{channel_of}
 use Rattle.run_laws.proofs.MadeCalls.{HasOwnData, IsMade, same_Some}

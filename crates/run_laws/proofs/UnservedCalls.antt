@@ -6,13 +6,13 @@ use Rattle.std.specs.List.{list_all}
 use Rattle.std.proofs.lemmas.List.Elements.{All-cons, All-nil, All-tail, All-weaker}
 use Rattle.std.proofs.lemmas.List.Sums.{list_all-from_AllPass, sum_by-append}
 use Rattle.std.proofs.lemmas.Option.{slice_get_past}
-use Rattle.ssd_geo.specs.CallSteps.{CallStep}
-use Rattle.ssd_geo.specs.CallsInOrder.{AreCallSteps, AreStepsOf, ChannelRun, IsAsAnswered, IsBegun, IsBegunOn, IsNotMade, OnOwnChannel, TookAtMost, hints_taken, is_age_of, is_left, is_trim_of, ladder_in, reply_to, steps_on}
-use Rattle.ssd_geo.specs.Copies.{IsRead, is_lone_look}
-use Rattle.ssd_geo.specs.History.{is_same_tag, open_looks}
+use Rattle.ssd_histories.specs.CallSteps.{CallStep}
+use Rattle.ssd_histories.specs.CallsInOrder.{AreCallSteps, AreNumberedAfter, AreStepsOf, ChannelRun, IsAsAnswered, IsBegun, IsBegunOn, IsNotMade, OnOwnChannel, TookAtMost, hints_taken, is_age_of, is_left, is_trim_of, ladder_in, reply_to, steps_on}
+use Rattle.ssd_histories.specs.Copies.{IsRead, is_lone_look}
+use Rattle.ssd_histories.specs.History.{is_same_tag, open_looks}
 use Rattle.ssd_geo.specs.Ladder.{LadderState}
-use Rattle.ssd_geo.specs.Rounds.{IsWrite, is_one}
-use Rattle.ssd_geo.specs.TraceText.{is_of_actor}
+use Rattle.ssd_histories.specs.Rounds.{IsWrite, is_one}
+use Rattle.ssd_formats.specs.TraceText.{is_of_actor}
 use Rattle.ssd_geo.specs.declared.base.ChannelBase.{ChannelBase}
 use Rattle.ssd_geo.specs.declared.entry.Entry.{Entry}
 use Rattle.ssd_geo.specs.declared.kind.Kind.{Kind}
@@ -21,8 +21,7 @@ use Rattle.ssd_geo.specs.declared.row.Row.{Row}
 use Rattle.ssd_geo.specs.declared.tag.Tag.{Tag}
 use Rattle.ssd_geo.specs.declared.trace.TraceCall.{TraceCall}
 use Rattle.ssd_geo.specs.declared.trace.Verb.{Verb}
-use Rattle.ssd_geo.proofs.TextLaws.{same_byte}
-use Rattle.run_laws.specs.ServedRuns.{AreNumberedAfter}
+use Rattle.ssd_formats.proofs.TextLaws.{same_byte}
 use Rattle.run_laws.specs.StoppedRuns.{IsPlainVerb}
 use Rattle.run_laws.proofs.ChangedRuns.{all_at, all_numbered, sum_of_none}
 use Rattle.run_laws.proofs.GrownPasts.{faults_in}

@@ -7,8 +7,8 @@ use Rattle.std.proofs.lemmas.Bool.{and_from, and_parts, eqb-true, ltb-true}
 use Rattle.std.proofs.lemmas.Bool.Decides.{nat_tests}
 use Rattle.std.proofs.lemmas.List.Quantifiers.{position-Some}
 use Rattle.std.proofs.lemmas.List.Sums.{sum_by-set}
-use Rattle.ssd_geo.specs.Blocks.{blank_block, block_at, first_some, freshest_of, frontier_of, has_due_used, is_due_block, is_free_block, is_freshest, is_frontier_block, is_no_fresher, next_superblock, used_in, with_next_used, with_slot_used}
-use Rattle.ssd_geo.specs.States.{is_free, is_frontier}
+use Rattle.ssd_histories.specs.Blocks.{blank_block, block_at, first_some, freshest_of, frontier_of, has_due_used, is_due_block, is_free_block, is_freshest, is_frontier_block, is_no_fresher, next_superblock, used_in, with_next_used, with_slot_used}
+use Rattle.ssd_histories.specs.States.{is_free, is_frontier}
 use Rattle.ssd_geo.specs.declared.base.BlockBase.{BlockBase}
 use Rattle.ssd_geo.specs.declared.superblock.SbState.{SbState}
 use Rattle.ssd_geo.specs.declared.superblock.SbState.TheVariants.{Free, Frontier, Sealed, Bad, Victim}

@@ -2,9 +2,9 @@
 use Rattle.std.proofs.Common.{ℕ, ◌≡◌, ◌≤◌, List, Some, sym, ap, subst, length-set}
 use Rattle.std.specs.Prelude.{All, length, count_by, slice_get, slice_set}
 use Rattle.std.specs.List.{enumerate_from}
-use Rattle.ssd_geo.specs.CallSteps.{CallStep, is_fault, steps_of}
-use Rattle.ssd_geo.specs.CallsInOrder.{AreCallSteps, ChannelRun, IsWhole, TookAtMost, looks_in_steps, steps_on}
-use Rattle.ssd_geo.specs.Start.{Start}
+use Rattle.ssd_histories.specs.CallSteps.{CallStep, is_fault, steps_of}
+use Rattle.ssd_histories.specs.CallsInOrder.{AreCallSteps, ChannelRun, IsWhole, TookAtMost, looks_in_steps, steps_on}
+use Rattle.ssd_histories.specs.Start.{Start}
 use Rattle.ssd_geo.specs.declared.entry.Entry.{Entry}
 use Rattle.ssd_geo.specs.declared.tag.Tag.{Tag}
 use Rattle.ssd_geo.specs.declared.trace.TraceCall.{TraceCall}

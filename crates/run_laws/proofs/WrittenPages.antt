@@ -13,24 +13,25 @@ use Rattle.ssd_geo.specs.declared.tag.Tag.{Tag}
 use Rattle.ssd_geo.specs.Cells.{fresh_levels}
 use Rattle.ssd_geo.specs.Coding.{coding_of}
 use Rattle.ssd_geo.specs.Ladder.{LadderState}
-use Rattle.ssd_geo.specs.Lawful.{IsLawfulKind}
-use Rattle.ssd_geo.specs.LookLaws.{NamesUsed}
+use Rattle.ssd_histories.specs.Lawful.{IsLawfulKind}
+use Rattle.ssd_histories.specs.LookLaws.{NamesUsed}
 use Rattle.ssd_geo.specs.Noise.{number_of_page}
-use Rattle.ssd_geo.specs.PastBlocks.{erases_of, used_of}
-use Rattle.ssd_geo.specs.PastPages.{PageChange, StoredPage, programs, programs_parity, empties, ages, leaves, aged_page, change_by_program, change_when, fresh_page, is_place, ladder_of, levels_in, page_of, word_of_page}
-use Rattle.ssd_geo.specs.PastRows.{row_of, serial_of}
-use Rattle.ssd_geo.specs.PlainMap.{PlainRow, bytes, nothing, plain_of}
-use Rattle.ssd_geo.specs.Ranges.{has_slot, is_in_range}
-use Rattle.ssd_geo.specs.Room.{next_slot}
-use Rattle.ssd_geo.specs.Start.{Start, data_of}
+use Rattle.ssd_histories.specs.PastBlocks.{erases_of, used_of}
+use Rattle.ssd_histories.specs.PastPages.{PageChange, StoredPage, programs, programs_parity, empties, ages, leaves, aged_page, change_by_program, change_when, fresh_page, is_place, ladder_of, levels_in, page_of, word_of_page}
+use Rattle.ssd_histories.specs.PastRows.{row_of, serial_of}
+use Rattle.ssd_histories.specs.PlainMap.{PlainRow, bytes, nothing, plain_of}
+use Rattle.ssd_histories.specs.Ranges.{has_slot, is_in_range}
+use Rattle.ssd_histories.specs.Room.{next_slot}
+use Rattle.ssd_histories.specs.Start.{Start, data_of}
 use Rattle.ssd_geo.specs.Stripe.{is_last_of_stripe, place_of_parity, place_of_slot, stripe_of_index}
-use Rattle.ssd_geo.proofs.FreshPages.{two_dies}
-use Rattle.ssd_geo.proofs.FreshSlots.{not_parity, same_place}
-use Rattle.ssd_geo.proofs.OpenLookLaws.{rows_name_used}
+use Rattle.ssd_histories.proofs.FreshPages.{two_dies}
+use Rattle.ssd_histories.proofs.FreshSlots.{not_parity, same_place}
+use Rattle.ssd_histories.proofs.OpenLookLaws.{rows_name_used}
 use Rattle.ssd_geo.proofs.Stripes.{places_differ}
-use Rattle.ssd_geo.proofs.UsedSlots.{made, next_is_used, second_holds, slot_in_range}
+use Rattle.ssd_histories.proofs.UsedSlots.{made, next_is_used, second_holds, slot_in_range}
 use Rattle.run_laws.specs.FirstSenses.{IsNoAgeing}
-use Rattle.run_laws.specs.ServedPasts.{IsData, IsPlainKind, IsPlainPast}
+use Rattle.ssd_histories.specs.LastWrites.{IsData}
+use Rattle.run_laws.specs.ServedPasts.{IsPlainKind, IsPlainPast}
 use Rattle.run_laws.proofs.BlankRows.{blank_row, blank_rows_name_used, newest_is_plain, past_is_plain}
 
 -- a fact of a word and a page holds for the word of some data, and these are what a row holds

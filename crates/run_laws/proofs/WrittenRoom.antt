@@ -7,16 +7,16 @@ use Rattle.std.proofs.lemmas.List.{ext_get_or}
 use Rattle.std.proofs.lemmas.List.Elements.{All-head, All-tail}
 use Rattle.std.proofs.lemmas.List.FromFn.{length-map-range_with_len}
 use Rattle.std.proofs.lemmas.List.Sums.{sum_by-cons}
-use Rattle.ssd_geo.specs.BlockLaws.{blocks_after}
-use Rattle.ssd_geo.specs.Blocks as Blocks
+use Rattle.ssd_histories.specs.BlockLaws.{blocks_after}
+use Rattle.ssd_histories.specs.Blocks as Blocks
 use Rattle.ssd_geo.specs.Coding.{coding_of}
 use Rattle.ssd_geo.specs.Ladder.{LadderState}
-use Rattle.ssd_geo.specs.Lawful.{IsLawfulKind}
-use Rattle.ssd_geo.specs.PastBlocks.{block_before, block_of, blocks_of, erases_of, slots_in, state_by}
-use Rattle.ssd_geo.specs.PastPages.{ladder_of}
-use Rattle.ssd_geo.specs.Room.{has_host_room}
-use Rattle.ssd_geo.specs.Start.{Start}
-use Rattle.ssd_geo.specs.States.{is_bad, is_free, is_victim}
+use Rattle.ssd_histories.specs.Lawful.{IsLawfulKind}
+use Rattle.ssd_histories.specs.PastBlocks.{block_before, block_of, blocks_of, erases_of, slots_in, state_by}
+use Rattle.ssd_histories.specs.PastPages.{ladder_of}
+use Rattle.ssd_histories.specs.Room.{has_host_room}
+use Rattle.ssd_histories.specs.Start.{Start}
+use Rattle.ssd_histories.specs.States.{is_bad, is_free, is_victim}
 use Rattle.ssd_geo.specs.declared.base.BlockBase.{BlockBase}
 use Rattle.ssd_geo.specs.declared.base.ChannelBase.{ChannelBase}
 use Rattle.ssd_geo.specs.declared.entry.Entry.{Entry}
@@ -24,9 +24,9 @@ use Rattle.ssd_geo.specs.declared.kind.Kind.{Kind}
 use Rattle.ssd_geo.specs.declared.superblock.SbState.{SbState}
 use Rattle.ssd_geo.specs.declared.superblock.SbState.TheVariants.{Free, Frontier, Sealed, Bad, Victim}
 use Rattle.ssd_geo.specs.declared.tag.Tag.{Tag}
-use Rattle.ssd_geo.proofs.BlockSteps.{blocks_after_entry}
-use Rattle.ssd_geo.proofs.PinnedWords.{slot_block}
-use Rattle.ssd_geo.proofs.UsedSlots.{block_is}
+use Rattle.ssd_histories.proofs.BlockSteps.{blocks_after_entry}
+use Rattle.ssd_histories.proofs.PinnedWords.{slot_block}
+use Rattle.ssd_histories.proofs.UsedSlots.{block_is}
 use Rattle.run_laws.specs.ServedPasts.{IsPlainKind, IsPlainPast}
 use Rattle.run_laws.specs.WrittenRoom.{HasBlankBlocks, PlainPastsHaveRoom, good_in, is_write, pages_that_fit, writes_in}
 use Rattle.run_laws.proofs.RoomLeft.{left_by, left_in, left_of, one_if, room_left}

@@ -4,12 +4,12 @@ use Rattle.std.specs.Prelude.{ℕ, ◌≡◌, ◌≢◌, ◌<◌, Bool, true, Li
 use Rattle.ssd_geo.specs.Cells.{fresh_levels, sensed}
 use Rattle.ssd_geo.specs.Coding.{coding_of}
 use Rattle.ssd_geo.specs.Ladder.{asks, recovered}
-use Rattle.ssd_geo.specs.PastPages.{ladder_of, sense_of}
-use Rattle.ssd_geo.specs.PastRows.{row_of}
-use Rattle.ssd_geo.specs.PlainMap.{bytes, plain_of}
-use Rattle.ssd_geo.specs.Replies.{bytes_of_word}
-use Rattle.ssd_geo.specs.SerialCalls.{entry_of}
-use Rattle.ssd_geo.specs.Start.{Start}
+use Rattle.ssd_histories.specs.PastPages.{ladder_of, sense_of}
+use Rattle.ssd_histories.specs.PastRows.{row_of}
+use Rattle.ssd_histories.specs.PlainMap.{bytes, plain_of}
+use Rattle.ssd_histories.specs.Replies.{bytes_of_word}
+use Rattle.ssd_histories.specs.SerialCalls.{entry_of}
+use Rattle.ssd_histories.specs.Start.{Start}
 use Rattle.ssd_geo.specs.Stripe.{place_of_slot}
 use Rattle.ssd_geo.specs.declared.base.ChannelBase.{ChannelBase}
 use Rattle.ssd_geo.specs.declared.entry.Entry.{Entry}
@@ -17,8 +17,9 @@ use Rattle.ssd_geo.specs.declared.kind.Kind.{Kind}
 use Rattle.ssd_geo.specs.declared.row.Row.{Row}
 use Rattle.ssd_geo.specs.declared.slot.Slot.{Slot}
 use Rattle.ssd_geo.specs.declared.tag.Tag.{Tag}
-use Rattle.run_laws.specs.ServedCalls.{after_look}
-use Rattle.run_laws.specs.ServedPasts.{IsData, IsPlainPast}
+use Rattle.ssd_histories.specs.ServedCalls.{after_look}
+use Rattle.run_laws.specs.ServedPasts.{IsPlainPast}
+use Rattle.ssd_histories.specs.LastWrites.{IsData}
 
 -- what the fresh cells of a page's word give at the first read level: the word, which is found at once and has the page's
 -- head and data

@@ -1,7 +1,10 @@
+pub mod CountedFaults
 pub mod FirstSenses
 pub mod Headline
-pub mod ServedCalls
+pub mod PrintedRuns
+pub mod Runs
 pub mod ServedPasts
 pub mod ServedRuns
-pub mod WrittenRoom
+pub mod Starts
 pub mod StoppedRuns
+pub mod WrittenRoom

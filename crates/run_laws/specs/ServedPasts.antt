@@ -1,21 +1,16 @@
 -- Which pasts has a channel whose calls are served so? It began without a page, and each entry is of a write, a trim, a read or an
 -- ageing; so a row that names a slot was written there, and the word there is that of its write.
-use Rattle.std.specs.Prelude.{ℕ, ◌≡◌, ◌<◌, List, length, replicate, All, ⊤}
-use Rattle.std.specs.List.{AllByRecursion}
+use Rattle.std.specs.Prelude.{ℕ, ◌≡◌, List, replicate, All, ⊤}
 use Rattle.ssd_geo.specs.Coding.{coding_of}
-use Rattle.ssd_geo.specs.Lawful.{IsLawful}
-use Rattle.ssd_geo.specs.Replies.{bytes_of_word}
-use Rattle.ssd_geo.specs.Start.{Start, data_of}
+use Rattle.ssd_histories.specs.LastWrites.{IsData}
+use Rattle.ssd_histories.specs.Lawful.{IsLawful}
+use Rattle.ssd_histories.specs.Replies.{bytes_of_word}
+use Rattle.ssd_histories.specs.Start.{Start, data_of}
 use Rattle.ssd_geo.specs.declared.base.ChannelBase.{ChannelBase}
 use Rattle.ssd_geo.specs.declared.entry.Entry.{Entry}
 use Rattle.ssd_geo.specs.declared.kind.Kind.{Kind}
 use Rattle.ssd_geo.specs.declared.row.Row.{Row}
 use Rattle.ssd_geo.specs.declared.tag.Tag.{Tag}
-
--- the data of one write: so many bytes
-pub record IsData (count : ℕ) (data_bytes : List ℕ) : Type 0 where
-  pub long : length data_bytes ≡ count
-  pub small : AllByRecursion (λ byte. byte < 256) data_bytes
 
 -- the words of a channel give the data that they were made of
 abbrev pub WordsGiveData : ChannelBase → Type 0

@@ -1,48 +1,51 @@
 -- What holds of a run after some of its calls were served one after the other, and what after all of them? Each channel has a
 -- lawful past of writes, trims, reads and ageings; the calls so far are whole in these pasts, were served in order and have their
 -- replies; and none of the calls to come has an entry.
-use Rattle.std.specs.Prelude.{ℕ, ◌≡◌, ◌<◌, nat_lt, ◌+◌, ◌-◌, ◌%◌, IsTrue, is_some, List, [], ◌∷◌, ◌++◌, length, map, replicate, All, count_by, sum_by, slice_get, slice_set, slice_index_or, Option, Some, None, ⊤}
+use Rattle.std.specs.Prelude.{ℕ, ◌≡◌, ◌<◌, nat_lt, ◌+◌, ◌-◌, ◌%◌, IsTrue, List, [], ◌∷◌, ◌++◌, length, map, replicate, All, count_by, sum_by, slice_get, slice_set, slice_index_or, Option, Some, None, ⊤}
 use Rattle.std.specs.List.{list_all}
-use Rattle.ssd_geo.specs.CallsInOrder.{ChannelRun, IsReplyOf, IsWhole, is_of_call, never_fall, reply_to}
-use Rattle.ssd_geo.specs.History.{history_of, open_looks}
-use Rattle.ssd_geo.specs.ImageContents.{Saved}
-use Rattle.ssd_geo.specs.ImageHead.{Head}
-use Rattle.ssd_geo.specs.Input.{Input}
-use Rattle.ssd_geo.specs.Lawful.{IsLawful}
-use Rattle.ssd_geo.specs.Room.{has_host_room}
-use Rattle.ssd_geo.specs.RunText.{is_hinted, taken_by}
-use Rattle.ssd_geo.specs.SerialHistory.{AreServed, first_state, most_hints}
-use Rattle.ssd_geo.specs.Start.{Start, data_of}
-use Rattle.ssd_geo.specs.TraceText.{content_bytes, contents_of, is_of_actor, kinds_of_actor}
+use Rattle.ssd_histories.specs.CallsInOrder.{AreNumberedAfter, ChannelRun, IsReplyOf, IsWhole, is_of_call, never_fall, reply_to}
+use Rattle.ssd_histories.specs.History.{history_of, open_looks}
+use Rattle.ssd_histories.specs.HistoryRoom.{found_room}
+use Rattle.ssd_formats.specs.HistoryText.{are_spelled_histories}
+use Rattle.ssd_formats.specs.ImageContents.{IsBaseOf, ChannelImage, cells_of_saved}
+use Rattle.ssd_formats.specs.ImageHead.{Head}
+use Rattle.ssd_formats.specs.Input.{Input}
+use Rattle.ssd_histories.specs.Lawful.{IsLawful}
+use Rattle.ssd_histories.specs.Room.{has_host_room}
+use Rattle.ssd_formats.specs.RunText.{is_hinted, taken_by}
+use Rattle.ssd_histories.specs.SerialHistory.{AreServed, first_state, most_hints}
+use Rattle.ssd_histories.specs.Standing.{IsPastOf}
+use Rattle.ssd_histories.specs.Start.{Start, data_of}
+use Rattle.ssd_formats.specs.TraceText.{content_bytes, contents_of, is_of_actor, kinds_of_actor}
 use Rattle.ssd_geo.specs.declared.entry.Entry.{Entry}
 use Rattle.ssd_geo.specs.declared.reply.Reply.{Reply}
 use Rattle.ssd_geo.specs.declared.tag.Tag.{Tag}
 use Rattle.ssd_geo.specs.declared.trace.Content.{Content}
 use Rattle.ssd_geo.specs.declared.trace.TraceCall.{TraceCall}
 use Rattle.ssd_geo.specs.declared.trace.Verb.{Verb}
-use Rattle.run_laws.specs.Headline.{BeginsAs, Headline, IsServedInOrder, ReadsLastWrite, contents_in}
-use Rattle.run_laws.specs.ServedCalls.{IsServedBy}
-use Rattle.run_laws.specs.ServedPasts.{IsData, IsPlainPast, IsPlainStart}
+use Rattle.run_laws.specs.Headline.{AreCounted, Headline, IsWholeRun}
+use Rattle.ssd_histories.specs.LastWrites.{ReadsLastWrite, IsData}
+use Rattle.run_laws.specs.Runs.{FaultCounts, Run, runs_with}
+use Rattle.ssd_histories.specs.ServedCalls.{IsServedBy}
+use Rattle.run_laws.specs.ServedPasts.{IsPlainPast, IsPlainStart}
 use Rattle.run_laws.specs.WrittenRoom.{HasBlankBlocks, pages_that_fit, writes_in, writes_to}
-
--- a call's tag has an actor of the trace, and as its number that of its actor's calls before it
-pub record IsNumberedAfter (actors : ℕ) (before : List TraceCall) (call : TraceCall) : Type 0 where
-  pub is_actor : call.tag.actor < actors
-  pub is_number : call.tag.call ≡ count_by (is_of_actor call.tag.actor) before
-
--- so have all calls after those before
-abbrev pub AreNumberedAfter : ℕ → List TraceCall → List TraceCall → Type 0
-AreNumberedAfter actors before [] = ⊤
-AreNumberedAfter actors before (call ∷ calls) =
-    IsNumberedAfter actors before call × AreNumberedAfter actors (before ++ call ∷ []) calls
 
 -- the data of a write are so many bytes; the other verbs have none
 abbrev pub HasData : ℕ → Verb → Type 0
 HasData count (Verb.Write page content) = IsData count (content_bytes count content)
 HasData count verb = ⊤
 
+-- a start is as an image gives a channel: its base, and the cells of its dies
+pub record BeginsAs (head : Head) (channel : ℕ) (saved : ChannelImage) (start : Start) : Type 0 where
+  pub is_base : IsBaseOf head channel saved start.base
+  pub are_cells : start.cells ≡ cells_of_saved head.sizes saved
+
+-- the data of the writes of an input
+abbrev pub contents_in : Input → List (Tag × List ℕ)
+contents_in input = contents_of input.head.sizes.bytes input.calls.calls
+
 -- starts are those of the channels that an image tells of, from this number on
-abbrev pub AreStartsOf : Head → ℕ → List Saved → List Start → Type 0
+abbrev pub AreStartsOf : Head → ℕ → List ChannelImage → List Start → Type 0
 AreStartsOf head channel [] [] = ⊤
 AreStartsOf head channel [] (start ∷ starts) = ⊥
 AreStartsOf head channel (saved ∷ more) [] = ⊥
@@ -58,12 +61,6 @@ pub record IsServedFrom (input : Input) (starts : List Start) : Type 0 where
   pub same_bytes : All (λ start. start.base.shape.bytes ≡ input.head.sizes.bytes) starts
   pub numbered : AreNumberedAfter input.calls.actors [] input.calls.calls
   pub have_data : All (λ call. HasData input.head.sizes.bytes call.verb) input.calls.calls
-
--- the channels of a run with these starts and pasts
-abbrev pub runs_with : List Start → List (List Entry) → List ChannelRun
-runs_with [] pasts = []
-runs_with (start ∷ starts) [] = []
-runs_with (start ∷ starts) (past ∷ pasts) = record { start = start; past = past } ∷ runs_with starts pasts
 
 -- a call has its reply, which is that of its entries; and that of a read gives the last write's data, where the page was recovered
 pub record IsAnswered (contents : List (Tag × List ℕ)) (runs : List ChannelRun) (replies : List (List Reply)) (call : TraceCall) : Type 0 where
@@ -135,20 +132,39 @@ ServesOneMore =
     ServesNext input starts pasts call reply channel after →
     IsServedRun input starts (done ++ call ∷ []) (with_reply replies call.tag.actor reply) (slice_set pasts channel after)
 
--- what holds when all calls were served: the queue of hints, from which none was taken, has dropped those past its room
-pub record HoldsOfRun (input : Input) (replies : List (List Reply)) (pasts : List (List Entry)) : Type 0 where
-  pub headline : Headline input (map history_of pasts) replies
-  pub in_order : IsServedInOrder input replies headline.runs (hints_in replies - most_hints)
-  pub all_answered : IsTrue (list_all (λ call. is_some (reply_to replies call.tag)) input.calls.calls)
+-- what the channels of an input have by themselves: each a past of its start, each entry of which found room, dies that counted the
+-- faults of which the entries tell, and a history that a text spells
+pub record ChannelsHold (input : Input) (starts : List Start) (pasts : List (List Entry)) (faults : List FaultCounts) : Type 0 where
+  pub are_pasts : All (λ run. IsPastOf run.start (contents_in input) run.past) (runs_with starts pasts)
+  pub have_room : All (λ run. IsTrue (found_room run.start.limit run.past)) (runs_with starts pasts)
+  pub are_counted : AreCounted (runs_with starts pasts) faults
+  pub are_spelled : IsTrue (are_spelled_histories (map history_of pasts))
+
+-- the run of an input with these replies: the queue of hints, from which none was taken, has dropped those past its room
+abbrev pub run_of_input : Input → List Start → List (List Reply) → List (List Entry) → List FaultCounts → Run
+run_of_input input starts replies pasts faults = record {
+  starts = starts;
+  calls = input.calls;
+  pasts = pasts;
+  replies = replies;
+  faults = faults;
+  dropped = hints_in replies - most_hints;
+}
+
+-- what holds when all calls were served
+pub record HoldsOfRun (input : Input) (run : Run) : Type 0 where
+  pub headline : Headline input.head run
+  pub is_whole : IsWholeRun input.head run
   pub as_many_replies :
       (actor : ℕ) → actor < input.calls.actors →
-      length (slice_index_or replies actor []) ≡ length (kinds_of_actor input.calls.calls actor)
-  pub none_taken : sum_by (sum_by taken_by) replies ≡ 0
+      length (slice_index_or run.replies actor []) ≡ length (kinds_of_actor input.calls.calls actor)
+  pub none_taken : sum_by (sum_by taken_by) run.replies ≡ 0
 
 abbrev pub ServedRunsHold : Type 0
 ServedRunsHold =
-    (input : Input) (starts : List Start) (replies : List (List Reply)) (pasts : List (List Entry)) →
-    IsServedRun input starts input.calls.calls replies pasts → HoldsOfRun input replies pasts
+    (input : Input) (starts : List Start) (replies : List (List Reply)) (pasts : List (List Entry)) (faults : List FaultCounts) →
+    IsServedRun input starts input.calls.calls replies pasts → ChannelsHold input starts pasts faults →
+    HoldsOfRun input (run_of_input input starts replies pasts faults)
 
 -- a write finds room exactly while fewer pages than fit were written to its channel before it
 abbrev pub ServedRunsHaveRoom : Type 0

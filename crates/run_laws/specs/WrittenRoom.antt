@@ -2,11 +2,11 @@
 -- collected? Each write uses one slot more, and one superblock is kept free for copies.
 use Rattle.std.specs.Prelude.{ℕ, ◌≡◌, ◌-◌, ◌*◌, ◌%◌, ◌==◌, nat_lt, Bool, true, false, ◌||◌, not, IsTrue, List, length, count_by}
 use Rattle.std.specs.List.{list_all}
-use Rattle.ssd_geo.specs.Blocks.{AreSound}
-use Rattle.ssd_geo.specs.PastBlocks.{slots_in}
-use Rattle.ssd_geo.specs.Room.{has_host_room}
-use Rattle.ssd_geo.specs.Start.{Start}
-use Rattle.ssd_geo.specs.States.{is_bad, is_free}
+use Rattle.ssd_histories.specs.Blocks.{AreSound}
+use Rattle.ssd_histories.specs.PastBlocks.{slots_in}
+use Rattle.ssd_histories.specs.Room.{has_host_room}
+use Rattle.ssd_histories.specs.Start.{Start}
+use Rattle.ssd_histories.specs.States.{is_bad, is_free}
 use Rattle.ssd_geo.specs.declared.base.BlockBase.{BlockBase}
 use Rattle.ssd_geo.specs.declared.base.ChannelBase.{ChannelBase}
 use Rattle.ssd_geo.specs.declared.entry.Entry.{Entry}

@@ -7,6 +7,6 @@ mod serving;
 
 pub use pages::{no_page_is_lost, pages_are_read_at_once, plain_pasts_have_room};
 pub use serving::{
-    served_runs_have_room, served_runs_hold, served_runs_stop, serves_one_more, serving_begins,
-    tags_give_data,
+    run_texts_tell_pasts, served_runs_have_room, served_runs_hold, served_runs_stop,
+    serves_one_more, serving_begins, tags_give_data, uncounted_faults_are_none,
 };

@@ -1,4 +1,6 @@
 //! Laws of runs whose calls are served one after the other.
+ghost use Rattle.run_laws.specs.CountedFaults.{UncountedFaultsAreNone};
+ghost use Rattle.run_laws.specs.PrintedRuns.{RunTextsTellPasts};
 ghost use Rattle.run_laws.specs.StoppedRuns.{ServedRunsStop};
 ghost use Rattle.run_laws.specs.ServedRuns.{ServedRunsHaveRoom, ServedRunsHold, ServesOneMore, ServingBegins, TagsGiveData};
 
@@ -30,4 +32,14 @@ pub fn served_runs_have_room()
 /// Where a call finds no room in its channel's history, the statement holds of the calls before it.
 pub fn served_runs_stop()
     ensures { ServedRunsStop }
+{}
+
+/// Of a die whose count of work is at the end of a run what it was at the start, no entry tells that it failed.
+pub fn uncounted_faults_are_none()
+    ensures { UncountedFaultsAreNone }
+{}
+
+/// The text of a run tells its histories.
+pub fn run_texts_tell_pasts()
+    ensures { RunTextsTellPasts }
 {}

@@ -2,9 +2,9 @@
 use Rattle.std.proofs.Common.{ℕ, zero, suc, ◌≡◌, ◌+◌, ◌<◌, List, [], ◌∷◌, ◌++◌, length, slice_get, Option, Some, Result, Ok, Err, IfOk, refl, sym, ap, subst, ◌∙◌, arith}
 use Rattle.std.proofs.lemmas.List.{length-append}
 use Rattle.chan_state.specs.ChannelState.{ChannelState, HasBegun, IsBlankStart, blank_start}
-use Rattle.run_laws.specs.StoppedRuns.{history_limit}
-use Rattle.ssd_geo.specs.ImageContents.{IsBaseOf, blank_channel}
-use Rattle.ssd_geo.specs.ImageHead.{Head, IsHead}
+use Rattle.ssd_top.specs.Handed.{history_limit}
+use Rattle.ssd_formats.specs.ImageContents.{IsBaseOf, blank_channel}
+use Rattle.ssd_formats.specs.ImageHead.{Head, IsHead}
 use Rattle.ssd_geo.specs.declared.base.ChannelBase.{ChannelBase}
 use Rattle.ssd_top.proofs.BlankStarts.{blank_is_start}
 use Rattle.ssd_top.specs.Begun.{IsBegun}

@@ -1,31 +1,39 @@
 -- Before the first call all that is asked of the worker and the channels of a blank drive holds.
-use Rattle.std.proofs.Common.{ℕ, zero, suc, ◌≡◌, ◌+◌, ◌-◌, ◌*◌, ◌%◌, ◌^◌, ◌<◌, ◌≤◌, ◌==◌, ◌&&◌, nat_le, Bool, true, false, not, List, [], ◌∷◌, length, map, replicate, get_or, slice_get, ℤ, Option, Some, All, is_none, refl, ap, sym, subst, ◌∙◌, arith}
-use Rattle.std.specs.List.{range_with_len}
+use Rattle.std.proofs.Common.{ℕ, zero, suc, ◌≡◌, ◌+◌, ◌-◌, ◌*◌, ◌%◌, ◌^◌, ◌<◌, ◌≤◌, ◌==◌, ◌&&◌, nat_le, Bool, true, false, not, List, [], ◌∷◌, length, map, replicate, get_or, slice_get, ℤ, Option, Some, All, None, is_none, refl, ap, sym, subst, ◌∙◌, arith, lit≤}
+use Rattle.std.specs.List.{list_all, range_with_len}
 use Rattle.std.proofs.lemmas.Bool.Decides.{nat_tests}
 use Rattle.std.proofs.lemmas.List.FromFn.{length-range_with_len}
 use Rattle.std.proofs.lemmas.List.Elements.{All-nil, All-cons}
 use Rattle.std.proofs.lemmas.Simd.{map-map}
 use Rattle.chan_calls.specs.Workers.{WorkerState, WorksFor}
 use Rattle.chan_state.specs.ChannelState.{ChannelState, blank_start}
-use Rattle.run_laws.specs.Headline.{BeginsAs, contents_in}
+use Rattle.run_laws.specs.Headline.{CountsAll}
+use Rattle.run_laws.specs.Runs.{FaultCounts}
+use Rattle.run_laws.specs.Starts as Starts
+use Rattle.run_laws.specs.Starts.{base_of, starts_from}
+use Rattle.run_laws.specs.ServedRuns.{BeginsAs, contents_in, AreStartsOf, HasData, IsServedFrom, IsServedRun}
+use Rattle.ssd_histories.specs.CallsInOrder.{AreNumberedAfter}
 use Rattle.run_laws.specs.ServedPasts.{IsPlainStart}
-use Rattle.run_laws.specs.StoppedRuns.{history_limit}
+use Rattle.ssd_top.specs.Handed.{handed_in, history_limit, no_faults, nothing_handed}
 use Rattle.run_laws.specs.WrittenRoom.{HasBlankBlocks}
-use Rattle.run_laws.specs.ServedRuns.{AreNumberedAfter, AreStartsOf, HasData, IsServedFrom, IsServedRun}
 use Rattle.run_laws.proofs.BegunRuns.{serving_begins}
 use Rattle.ssd_geo.specs.BaseMatrix.{IsAccepted, MatrixFault}
 use Rattle.ssd_geo.specs.Coding as Coding
-use Rattle.ssd_geo.specs.Fields.{is_within}
-use Rattle.ssd_geo.specs.ImageContents.{blank_channel, blank_saved, cells_of_block, cells_of_saved}
-use Rattle.ssd_geo.specs.ImageHead.{Head, IsHead, Sizes, is_column_count, matrix_of}
-use Rattle.ssd_geo.specs.Input.{Input}
-use Rattle.ssd_geo.specs.Limits.{cells_of}
-use Rattle.ssd_geo.specs.Start.{BlockCells, Start, blank_cells}
+use Rattle.ssd_geo.specs.Limits.{is_within, cells_of}
+use Rattle.ssd_geo.specs.Faults.{NeverFell, RoseBy}
+use Rattle.ssd_geo.specs.declared.shape.Shape.{Shape}
+use Rattle.ssd_histories.specs.HistoryRoom.{found_room}
+use Rattle.ssd_histories.specs.Standing.{CountsFaults, count_at}
+use Rattle.ssd_formats.specs.ImageContents.{ChannelImage, blank_channel, blank_saved, cells_of_block, cells_of_saved}
+use Rattle.ssd_formats.specs.HistoryText.{is_spelled_entry}
+use Rattle.ssd_formats.specs.ImageHead.{Head, IsHead, Sizes, is_column_count, matrix_of_head, sizes_of}
+use Rattle.ssd_formats.specs.Input.{Input}
+use Rattle.ssd_histories.specs.Start.{BlockCells, Start, blank_cells}
 use Rattle.ssd_geo.specs.declared.entry.Entry.{Entry}
 use Rattle.ssd_geo.specs.declared.row.Row.{Row}
 use Rattle.ssd_geo.specs.declared.trace.Trace.{Trace}
-use Rattle.ssd_geo.proofs.ContentsLaws.{equal_is}
-use Rattle.ssd_geo.proofs.HeadLaws.{both_of}
+use Rattle.ssd_formats.proofs.ContentsLaws.{equal_is}
+use Rattle.ssd_formats.proofs.HeadLaws.{both_of}
 use Rattle.ssd_top.specs.Begun.{AreBegun, IsBegun, IsWorkerOf}
 use Rattle.ssd_top.specs.Forms.{are_served, blank_input, is_served, is_served_drive}
 use Rattle.ssd_top.specs.RoomForTrace.{fits_drive}
@@ -98,6 +106,42 @@ begins_as head number channel begun = record {
       ∙ sym (cells_are head number);
 }
 
+-- and it is what the image, the limit and what is handed in give, with the shape of these sizes
+module _ (shape : Shape) (head : Head) (sizes_are : sizes_of shape ≡ head.sizes) where
+  base_is : (number : ℕ) (channel : ChannelState) (begun : IsBegun head number channel)
+      → begun.base ≡ base_of shape head number (blank_channel head number)
+  base_is number channel begun = λ i. record {
+    shape = same_shape begun.base.shape shape (begun.is_base.shape ∙ sym sizes_are) i;
+    session = begun.is_base.session i;
+    blocks = begun.is_base.blocks i;
+    rows = begun.is_base.rows i;
+    sum = begun.is_base.sum i;
+    channel = begun.is_base.number i;
+    entries = begun.is_base.entries i;
+    read_levels = begun.is_base.read_levels i;
+    iterations = begun.is_base.iterations i;
+    step = begun.is_base.step i;
+    law = begun.is_base.law i;
+    weak = begun.is_base.weak i;
+  }
+
+  start_is : (number : ℕ) (channel : ChannelState) (begun : IsBegun head number channel)
+      → start_of begun ≡ Starts.start_of shape head history_limit number (blank_channel head number) (nothing_handed head)
+  start_is number channel begun = λ i. record {
+    base = base_is number channel begun i;
+    limit = history_limit;
+    cells = (begins_as head number channel begun).are_cells i;
+    work_faults = replicate (begun.is_base.shape i).dies 0;
+    load_faults = replicate (begun.is_base.shape i).dies 0;
+    view = None;
+  }
+
+  starts_from_image : (number : ℕ) (channels : List ChannelState) (begun : AreBegunFrom head number channels) →
+      let saved : List ChannelImage = map (blank_channel head) (range_with_len number (length channels)) in
+      starts_of head number channels begun ≡ starts_from shape head history_limit number saved (handed_in head saved)
+  starts_from_image number [] begun = refl
+  starts_from_image number (channel ∷ channels) begun = λ i. start_is number channel begun.0 i ∷ starts_from_image (number + 1) channels begun.1 i
+
 are_starts : (head : Head) (number : ℕ) (channels : List ChannelState) (begun : AreBegunFrom head number channels)
     → AreStartsOf head number (map (blank_channel head) (range_with_len number (length channels))) (starts_of head number channels begun)
 are_starts head number [] begun = tt
@@ -122,6 +166,27 @@ no_pasts : (head : Head) (number : ℕ) (channels : List ChannelState) (begun : 
 no_pasts head number [] begun = refl
 no_pasts head number (channel ∷ channels) begun = rw (begun.0.has_begun.no_entry, ← no_pasts head (number + 1) channels begun.1) refl
 
+-- dies that failed in no call count no fault
+zeros : (n die : ℕ) → count_at (replicate n 0) die ≡ 0
+zeros zero die = refl
+zeros (suc n) zero = refl
+zeros (suc n) (suc die) = zeros n die
+
+counts_none : (start : Start) (n m die : ℕ) (counts : FaultCounts) → start.work_faults ≡ replicate n 0 → start.load_faults ≡ replicate n 0
+    → counts.work ≡ replicate m 0 → counts.load ≡ replicate m 0
+    → CountsFaults start [] die (count_at counts.work die) (count_at counts.load die)
+counts_none start n m die counts work load work_end load_end =
+    let none : (list : List ℕ) (k : ℕ) → list ≡ replicate k 0 → count_at list die ≡ 0 = λ list k is.
+    ap (λ (other : List ℕ). count_at other die) is ∙ zeros k die in
+    record {
+      work_rose =
+          subst (λ (now : ℕ). RoseBy 0 (count_at start.work_faults die) now) (sym (none counts.work m work_end))
+          (subst (λ (before : ℕ). RoseBy 0 before 0) (sym (none start.work_faults n work)) (lit≤ tt));
+      load_stays =
+          subst (λ (now : ℕ). NeverFell (count_at start.load_faults die) now) (sym (none counts.load m load_end))
+          (subst (λ (before : ℕ). NeverFell before 0) (sym (none start.load_faults n load)) (lit≤ tt));
+    }
+
 -- a number that passed a test is in its range
 pub range_is : (low high n : ℕ) → is_within low high n ≡ true → (low ≤ n) × (n ≤ high)
 range_is low high n e =
@@ -140,7 +205,7 @@ columns_are channels dies superblocks pages z mb nb e =
     (first_of_four (is_within (mb + 1) 128 nb) ((nb - mb) * z % 8 == 0) (nb * z % 8 == 0) (nat_le (cells_of channels dies superblocks pages z nb) (2 ^ 28)) e)
 
 -- the base matrix of a head has a code
-head_accepted : (head : Head) → IsHead head → IsAccepted (matrix_of head)
+head_accepted : (head : Head) → IsHead head → IsAccepted (matrix_of_head head)
 head_accepted head ok =
     let z = range_is 4 1024 head.sizes.z ok.lifting in
     let mb = range_is 3 16 head.sizes.mb ok.base_rows in
@@ -164,7 +229,7 @@ module _ (head : Head) (ok : IsHead head) (worker : WorkerState) (is_worker : Is
   -- its channels begin without pages, and their words give their data
   is_plain : (number : ℕ) (channel : ChannelState) (begun : IsBegun head number channel) → IsPlainStart (start_of begun)
   is_plain number channel begun =
-      let same_matrix : Coding.matrix_of begun.base ≡ matrix_of head = λ i.
+      let same_matrix : Coding.matrix_of begun.base ≡ matrix_of_head head = λ i.
       record {
         z = (begun.is_base.shape i).z;
         mb = (begun.is_base.shape i).mb;
@@ -179,7 +244,7 @@ module _ (head : Head) (ok : IsHead head) (worker : WorkerState) (is_worker : Is
   -- and the worker works for them
   works : (number : ℕ) (channel : ChannelState) (begun : IsBegun head number channel) → WorksFor worker (start_of begun)
   works number channel begun =
-      let same_code : matrix_of head ≡ Coding.matrix_of begun.base = λ i.
+      let same_code : matrix_of_head head ≡ Coding.matrix_of begun.base = λ i.
       record {
         z = (sym begun.is_base.shape i).z;
         mb = (sym begun.is_base.shape i).mb;
@@ -200,7 +265,13 @@ module _ (head : Head) (ok : IsHead head) (worker : WorkerState) (is_worker : Is
   is_channel input number channel begun = record {
     works = works number channel begun;
     stands = begun.has_begun.stands (contents_in input);
-    limit_is = begun.has_begun.limit_is;
+    has_room = subst (λ (past : List Entry). found_room history_limit past ≡ true) (sym begun.has_begun.no_entry) refl;
+    counts =
+        subst (λ (past : List Entry). CountsAll (record { start = start_of begun; past = past }) (no_faults input.head))
+        (sym begun.has_begun.no_entry)
+        (λ die low. counts_none (start_of begun) begun.base.shape.dies input.head.sizes.dies die (no_faults input.head) refl refl refl refl);
+    spelled = subst (λ (past : List Entry). list_all is_spelled_entry past ≡ true) (sym begun.has_begun.no_entry) refl;
+    short = subst (λ (past : List Entry). length past ≤ history_limit) (sym begun.has_begun.no_entry) (lit≤ tt);
   }
 
 -- what holds of each channel that has begun and its start
@@ -242,8 +313,9 @@ pub running_begins : (head : Head) → IsHead head → (trace : Trace) → is_se
     → (worker : WorkerState) → IsWorkerOf head worker → (channels : List ChannelState) → AreBegun head channels
     → AreNumberedAfter trace.actors [] trace.calls → All (λ call. HasData head.sizes.bytes call.verb) trace.calls
     → All (λ call. FitsDrive worker.shape (length channels) call.verb) trace.calls
+    → trace.actors ≤ 32 → length trace.calls ≤ 2 ^ 20
     → IsRunning (blank_input head trace) worker channels [] (replicate trace.actors [])
-running_begins head ok trace served worker is_worker channels are numbered have_data fits =
+running_begins head ok trace served worker is_worker channels are numbered have_data fits few_actors few_calls =
     let begun : AreBegunFrom head 0 channels = are_begun head channels are in
     let starts : List Start = starts_of head 0 channels begun in
     let as_many : length starts ≡ length channels = as_many_starts head 0 channels begun in
@@ -264,6 +336,12 @@ running_begins head ok trace served worker is_worker channels are numbered have_
     } in
     record {
       starts = starts;
+      starts_are =
+          subst
+          (λ (count : ℕ). let saved : List ChannelImage = map (blank_channel head) (range_with_len 0 count) in
+          starts ≡ starts_from worker.shape head history_limit 0 saved (handed_in head saved))
+          are.as_many (starts_from_image worker.shape head is_worker.sizes_are 0 channels begun);
+      sizes_are = is_worker.sizes_are;
       served =
           subst (IsServedRun (blank_input head trace) starts [] (replicate trace.actors [])) (no_pasts head 0 channels begun)
           (serving_begins (blank_input head trace) starts from);
@@ -271,6 +349,8 @@ running_begins head ok trace served worker is_worker channels are numbered have_
           each_channel (IsChannelOf (blank_input head trace) worker) head (is_channel head ok worker is_worker (blank_input head trace)) 0
           channels begun;
       few_channels = omega (arith, are.as_many, (range_is 1 8 head.sizes.channels ok.channels).1);
+      few_actors = few_actors;
+      few_calls = few_calls;
       fits = fits;
       blank =
           each_start (λ start. HasBlankBlocks start.base) head

@@ -4,7 +4,7 @@ use Rattle.std.proofs.Math.Seq.{take-append_seam}
 use Rattle.std.specs.Prelude.{All}
 use Rattle.chan_calls.specs.Workers.{WorkerState}
 use Rattle.chan_state.specs.ChannelState.{ChannelState}
-use Rattle.ssd_geo.specs.ImageHead.{Head, IsHead}
+use Rattle.ssd_formats.specs.ImageHead.{Head, IsHead}
 use Rattle.ssd_geo.specs.declared.trace.Trace.{Trace}
 use Rattle.trace_text.specs.NumberedCalls.{IsNumbered}
 use Rattle.ssd_top.proofs.BegunDrives.{range_is, running_begins}
@@ -42,4 +42,5 @@ run_begins head is_head trace served numbered worker is_worker channels seen beg
     (running_begins head is_head trace served (settings worker) (settings_of_worker head worker is_worker) channels begun
     (are_numbered head.sizes trace.actors [] trace.calls numbered.calls)
     (have_data head.sizes trace.actors [] trace.calls numbered.calls)
-    (subst (λ (count : ℕ). All (λ call. FitsDrive worker.shape count call.verb) trace.calls) (sym begun.as_many) fits))
+    (subst (λ (count : ℕ). All (λ call. FitsDrive worker.shape count call.verb) trace.calls) (sym begun.as_many) fits)
+    numbered.actors_high numbered.few)

@@ -3,9 +3,9 @@ use Rattle.std.proofs.Common.{◌≡◌, ℕ, ◌||◌, Bool, true, false, List,
 use Rattle.std.specs.List.{list_all, range_with_len}
 use Rattle.std.proofs.lemmas.List.FromFn.{length-map-range_with_len}
 use Rattle.run_laws.specs.WrittenRoom.{HasBlankBlocks}
-use Rattle.ssd_geo.specs.ImageContents.{is_factory_bad}
-use Rattle.ssd_geo.specs.ImageHead.{Head}
-use Rattle.ssd_geo.specs.States.{is_bad, is_free}
+use Rattle.ssd_formats.specs.ImageContents.{is_factory_bad}
+use Rattle.ssd_formats.specs.ImageHead.{Head}
+use Rattle.ssd_histories.specs.States.{is_bad, is_free}
 use Rattle.ssd_geo.specs.declared.base.BlockBase.{BlockBase}
 use Rattle.ssd_geo.specs.declared.base.ChannelBase.{ChannelBase}
 use Rattle.ssd_top.proofs.BlankChannels.{blank_block_of, blank_state, each_passes}

@@ -6,16 +6,16 @@ use Rattle.std.proofs.lemmas.Bool.Decides.{nat_tests}
 use Rattle.std.proofs.lemmas.List.Folds.{sum_by-zero}
 use Rattle.std.proofs.lemmas.List.FromFn.{length-range_with_len, map-range_with_len_more}
 use Rattle.std.proofs.lemmas.Simd.{map-map}
-use Rattle.ssd_geo.specs.Blocks.{has_due_used}
-use Rattle.ssd_geo.specs.ImageContents.{SavedBlock, blank_channel, blank_saved, blocks_of, cells_of_block, cells_of_saved, has_open_stripe, is_factory_bad, sum_of_saved, word_bytes_in}
-use Rattle.ssd_geo.specs.ImageHead.{Head}
-use Rattle.ssd_geo.specs.Start.{BlockCells, blank_cells}
-use Rattle.ssd_geo.specs.States.{is_frontier, is_victim}
+use Rattle.ssd_histories.specs.Blocks.{has_due_used}
+use Rattle.ssd_formats.specs.ImageContents.{SavedBlock, blank_channel, blank_saved, blocks_of_saved, cells_of_block, cells_of_saved, is_stripe_open, is_factory_bad, sum_of_saved, word_bytes_of_sizes}
+use Rattle.ssd_formats.specs.ImageHead.{Head}
+use Rattle.ssd_histories.specs.Start.{BlockCells, blank_cells}
+use Rattle.ssd_histories.specs.States.{is_frontier, is_victim}
 use Rattle.ssd_geo.specs.StripeSum.{zero_word}
 use Rattle.ssd_geo.specs.declared.base.BlockBase.{BlockBase}
 use Rattle.ssd_geo.specs.declared.superblock.SbState.{SbState}
 use Rattle.ssd_geo.specs.declared.superblock.SbState.TheVariants.{Free, Bad}
-use Rattle.ssd_geo.proofs.ContentsLaws.{equal_is}
+use Rattle.ssd_formats.proofs.ContentsLaws.{equal_is}
 
 -- the state of a superblock that is factory bad, or isn't
 abbrev pub blank_state : Bool → SbState
@@ -40,7 +40,7 @@ blank_block_of head channel sb =
 
 -- the superblocks of a blank channel, as its base has them
 pub blocks_are : (head : Head) (channel : ℕ) →
-    blocks_of (blank_channel head channel).blocks ≡ map (blank_block_of head channel) (range_with_len 0 head.sizes.superblocks)
+    blocks_of_saved (blank_channel head channel).blocks ≡ map (blank_block_of head channel) (range_with_len 0 head.sizes.superblocks)
 blocks_are head channel =
     map-map (λ (saved : SavedBlock). saved.block) (blank_saved head channel) (range_with_len 0 head.sizes.superblocks)
 
@@ -73,16 +73,16 @@ none_counted test f h xs =
     ∙ each_passes (λ x. cond (test x) 1 0 == 0) f (λ x. ap (λ (b : Bool). cond b 1 0 == 0) (h x)) xs)
 
 -- no stripe of a blank channel is open
-none_open : (head : Head) (channel sb : ℕ) → has_open_stripe head.sizes (blank_block_of head channel sb) ≡ false
+none_open : (head : Head) (channel sb : ℕ) → is_stripe_open head.sizes (blank_block_of head channel sb) ≡ false
 none_open head channel sb =
     ap (λ (b : Bool). b && not (0 % (head.sizes.dies - 1) == 0)) (no_frontier (is_factory_bad head channel sb))
 
 -- so its running sum is all 0
 pub blank_sum : (head : Head) (channel : ℕ) →
-    sum_of_saved head.sizes (blank_channel head channel) ≡ zero_word (word_bytes_in head.sizes)
+    sum_of_saved head.sizes (blank_channel head channel) ≡ zero_word (word_bytes_of_sizes head.sizes)
 blank_sum head channel =
-    ap (λ (found : Option SavedBlock). option_map_or (λ (block : SavedBlock). block.sum) found (zero_word (word_bytes_in head.sizes)))
-    (none_found (λ (block : SavedBlock). has_open_stripe head.sizes block.block) (blank_saved head channel) (none_open head channel)
+    ap (λ (found : Option SavedBlock). option_map_or (λ (block : SavedBlock). block.sum) found (zero_word (word_bytes_of_sizes head.sizes)))
+    (none_found (λ (block : SavedBlock). is_stripe_open head.sizes block.block) (blank_saved head channel) (none_open head channel)
     (range_with_len 0 head.sizes.superblocks))
 
 -- the cells of a block that was never erased, of its pages

@@ -8,16 +8,17 @@ use Rattle.std.proofs.lemmas.List.Elements.{All-map, All-replicate}
 use Rattle.std.proofs.lemmas.List.FromFn.{length-map-range_with_len, get_or-map-range_with_len}
 use Rattle.ssd_geo.specs.BaseMatrix as BaseMatrix
 use Rattle.ssd_geo.specs.BaseMatrix.{BaseMatrix, first_fault}
-use Rattle.ssd_geo.specs.Blocks.{AreSound, block_at, blank_block, is_due_block, is_frontier_block, is_victim_block}
+use Rattle.ssd_histories.specs.Blocks.{AreSound, block_at, blank_block, is_due_block, is_frontier_block, is_victim_block}
 use Rattle.ssd_geo.specs.Coding.{matrix_of, word_bytes_in}
 use Rattle.ssd_geo.specs.Bits.{bits_of}
 use Rattle.ssd_geo.specs.Codewords.{is_odd_row, word_bits}
-use Rattle.ssd_geo.specs.ImageContents.{IsBaseOf, blank_channel, is_factory_bad}
-use Rattle.ssd_geo.specs.ImageHead.{Head, IsHead, Sizes, are_weak_records, comes_after, is_weak_before, is_weak_record}
-use Rattle.ssd_geo.specs.PageMap.{NameApart, names_slot, names_within, row_at}
-use Rattle.ssd_geo.specs.PastBlocks.{slots_in}
-use Rattle.ssd_geo.specs.Standing.{HasFields, IsDueBlock, IsStart, is_between, is_level, names_used}
-use Rattle.ssd_geo.specs.Start.{BlockCells, Start, blank_cells, cells_at}
+use Rattle.ssd_formats.specs.ImageContents.{IsBaseOf, blank_channel, is_factory_bad}
+use Rattle.ssd_formats.specs.ImageHead.{Head, IsHead, Sizes, are_weak_records, comes_after, is_weak_before, is_weak_record}
+use Rattle.ssd_histories.specs.PageMap.{NameApart, names_slot, names_within, row_at}
+use Rattle.ssd_histories.specs.PastBlocks.{slots_in}
+use Rattle.ssd_histories.specs.Standing.{HasFields, IsDueBlock, IsStart, names_used}
+use Rattle.ssd_geo.specs.Limits.{is_within, is_level}
+use Rattle.ssd_histories.specs.Start.{BlockCells, Start, blank_cells, cells_at}
 use Rattle.ssd_geo.specs.StripeSum.{zero_word}
 use Rattle.ssd_geo.specs.Superblock.{due_pages}
 use Rattle.ssd_geo.specs.declared.base.BlockBase.{BlockBase}
@@ -26,8 +27,8 @@ use Rattle.ssd_geo.specs.declared.cell_law.CellLaw.{CellLaw}
 use Rattle.ssd_geo.specs.declared.row.Row.{Row}
 use Rattle.ssd_geo.specs.declared.row.Row.TheVariants.{Empty}
 use Rattle.ssd_geo.specs.declared.weak.Weak.{Weak}
-use Rattle.ssd_geo.proofs.HeadLaws.{below_is, both_of, within_is}
-use Rattle.ssd_geo.proofs.SpelledHeads.{never}
+use Rattle.ssd_formats.proofs.HeadLaws.{below_is, both_of, within_is}
+use Rattle.ssd_formats.proofs.SpelledHeads.{never}
 use Rattle.ssd_geo.proofs.Stripes.{due_pages_ends}
 use Rattle.ssd_top.proofs.BlankChannels.{blank_block_of, blank_sum, blocks_are, each_passes, no_frontier, no_victim, none_counted, none_used}
 use Rattle.ssd_top.proofs.ZeroWords.{zero_codeword}
@@ -169,10 +170,10 @@ fields_of_base head channel base h c b =
       channel = omega (arith, b.number);
       session = omega (arith, b.session);
       matrix = matrix_accepted head channel base h b;
-      levels_count = ap (λ (levels : List ℤ). is_between 1 (length levels) 16) b.read_levels ∙ h.level_count;
+      levels_count = ap (λ (levels : List ℤ). is_within 1 16 (length levels)) b.read_levels ∙ h.level_count;
       levels = ap (λ (levels : List ℤ). list_all is_level levels) b.read_levels ∙ h.levels;
-      iterations = ap (λ (n : ℕ). is_between 1 n 64) b.iterations ∙ h.iterations;
-      step = ap (λ (n : ℕ). is_between 1 n 2047) b.step ∙ h.step;
+      iterations = ap (λ (n : ℕ). is_within 1 64 n) b.iterations ∙ h.iterations;
+      step = ap (λ (n : ℕ). is_within 1 2047 n) b.step ∙ h.step;
       erased =
           ap (λ (law : CellLaw). int_le (neg_ℤ (pos 8192)) law.erased && int_le law.erased (pos 8190)) b.law ∙ h.erased;
       programmed =

@@ -1,7 +1,7 @@
 -- The text of a fault: what is wrong where, and then its word; and that of a history at its limit.
 use Rattle.std.proofs.Common.{ℕ, ◌≡◌, ◌++◌, List, [], ◌∷◌, codes, sym, ap, ◌∙◌}
 use Rattle.std.proofs.lemmas.List.{append_assoc}
-use Rattle.ssd_geo.specs.EntryText.{line_of}
+use Rattle.ssd_formats.specs.EntryText.{line_of}
 
 -- a line of three words, the second with a colon, after other bytes
 pub fault_line : (before front number word : List ℕ) → before ++ (front ++ codes " ") ++ number ++ codes ": " ++ word ++ codes "\n" ≡ before ++ line_of (front ∷ (number ++ codes ":") ∷ word ∷ [])

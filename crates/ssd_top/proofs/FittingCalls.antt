@@ -5,21 +5,21 @@ use Rattle.std.specs.Prelude.{Bool}
 use Rattle.std.proofs.lemmas.Bool.{leb-true, lt-ltb}
 use Rattle.std.proofs.lemmas.List.Sums.{sum_by-cons}
 use Rattle.run_laws.specs.WrittenRoom.{good_in, is_write_to, pages_that_fit, writes_to}
-use Rattle.ssd_geo.specs.ImageContents as ImageContents
-use Rattle.ssd_geo.specs.ImageContents.{IsBaseOf, Saved}
-use Rattle.ssd_geo.specs.ImageHead.{Head}
-use Rattle.ssd_geo.specs.Input.{Input}
+use Rattle.ssd_formats.specs.ImageContents as ImageContents
+use Rattle.ssd_formats.specs.ImageContents.{IsBaseOf, ChannelImage}
+use Rattle.ssd_formats.specs.ImageHead.{Head}
+use Rattle.ssd_formats.specs.Input.{Input}
 use Rattle.ssd_geo.specs.declared.base.ChannelBase.{ChannelBase}
 use Rattle.ssd_geo.specs.declared.trace.TraceCall.{TraceCall}
 use Rattle.ssd_top.specs.RoomForTrace.{fits_drive, saved_pages_that_fit}
 use Rattle.ssd_top.proofs.InputChannels.{fits_at}
 
 -- as many pages fit a channel as the image tells of it
-pub pages_are : (head : Head) (channel : ℕ) (saved : Saved) (base : ChannelBase) →
+pub pages_are : (head : Head) (channel : ℕ) (saved : ChannelImage) (base : ChannelBase) →
     IsBaseOf head channel saved base
     → pages_that_fit base ≡ saved_pages_that_fit head.sizes saved
 pages_are head channel saved base is_base = λ i.
-    (good_in (is_base.blocks i) - 1) * ImageContents.slots_in (is_base.shape i)
+    (good_in (is_base.blocks i) - 1) * ImageContents.slots_of_sizes (is_base.shape i)
 
 -- a write comes on top of those before it
 module _ (channels channel : ℕ) where
@@ -38,7 +38,7 @@ module _ (channels channel : ℕ) where
       omega (arith, before, all, one_more_write done rest call is)
 
 -- before each write fewer pages than fit were written to its channel
-pub write_fits : (input : Input) (channel : ℕ) (saved : Saved) (base : ChannelBase)
+pub write_fits : (input : Input) (channel : ℕ) (saved : ChannelImage) (base : ChannelBase)
     (done rest : List TraceCall) (call : TraceCall)
     → slice_get input.channels channel ≡ Some saved → IsBaseOf input.head channel saved base →
     fits_drive input ≡ true

@@ -5,10 +5,10 @@ use Rattle.std.specs.List.{list_all, range_with_len}
 use Rattle.std.proofs.lemmas.List.FromFn.{length-map-range_with_len}
 use Rattle.std.proofs.lemmas.List.Sums.{sum_by-cons}
 use Rattle.run_laws.specs.WrittenRoom.{good_in, writes_to}
-use Rattle.ssd_geo.specs.ImageContents.{Saved, blank_channel, blocks_of, is_factory_bad}
-use Rattle.ssd_geo.specs.ImageHead.{Head}
-use Rattle.ssd_geo.specs.Input.{Input}
-use Rattle.ssd_geo.specs.States.{is_bad}
+use Rattle.ssd_formats.specs.ImageContents.{ChannelImage, blank_channel, blocks_of_saved, is_factory_bad}
+use Rattle.ssd_formats.specs.ImageHead.{Head}
+use Rattle.ssd_formats.specs.Input.{Input}
+use Rattle.ssd_histories.specs.States.{is_bad}
 use Rattle.ssd_geo.specs.declared.base.BlockBase.{BlockBase}
 use Rattle.ssd_geo.specs.declared.trace.Trace.{Trace}
 use Rattle.ssd_top.specs.Forms.{blank_input}
@@ -33,7 +33,7 @@ good_state false = refl
 
 pub good_blank : (head : Head) (channel good : ℕ)
     → good ≡ count_by (λ sb. not (is_factory_bad head channel sb)) (range_with_len 0 head.sizes.superblocks)
-    → good ≡ good_in (blocks_of (blank_channel head channel).blocks)
+    → good ≡ good_in (blocks_of_saved (blank_channel head channel).blocks)
 good_blank head channel good counted =
     counted
     ∙ count_map (λ (block : BlockBase). not (is_bad block.state)) (blank_block_of head channel)
@@ -42,7 +42,7 @@ good_blank head channel good counted =
     ∙ sym (ap good_in (blocks_are head channel))
 
 -- the channels of a blank drive, one by one
-fits_from_is : (input : Input) (f : ℕ → Saved) (channel n : ℕ)
+fits_from_is : (input : Input) (f : ℕ → ChannelImage) (channel n : ℕ)
     → list_all (λ k. fits_channel input k (f k)) (range_with_len channel n)
     ≡ fits_from input channel (map f (range_with_len channel n))
 fits_from_is input f channel zero = refl

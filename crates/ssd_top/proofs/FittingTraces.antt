@@ -7,17 +7,17 @@ use Rattle.std.proofs.lemmas.List.{length-append, length-replicate, length-take-
 use Rattle.std.specs.Int.{w64, to_le_bytes}
 use Rattle.std.specs.List.{range_with_len}
 use Rattle.std.specs.Prelude.{All}
-use Rattle.ssd_geo.specs.ImageHead.{Sizes, sizes_of}
+use Rattle.ssd_formats.specs.ImageHead.{Sizes, sizes_of}
 use Rattle.ssd_geo.specs.Noise.{noise_word}
-use Rattle.ssd_geo.specs.TraceText.{content_bytes}
+use Rattle.ssd_formats.specs.TraceText.{content_bytes}
 use Rattle.ssd_geo.specs.declared.shape.Shape.{Shape}
 use Rattle.ssd_geo.specs.declared.trace.Content.{Content}
 use Rattle.ssd_geo.specs.declared.trace.Content.TheVariants.{Listed, Words}
 use Rattle.ssd_geo.specs.declared.trace.TraceCall.{TraceCall}
 use Rattle.ssd_geo.specs.declared.trace.Verb.{Verb}
 use Rattle.ssd_geo.specs.declared.trace.Verb.TheVariants.{Write, Read, Trim, Refresh, Collect, Drain, Age}
-use Rattle.run_laws.specs.ServedPasts.{IsData}
-use Rattle.run_laws.specs.ServedRuns as Runs
+use Rattle.ssd_histories.specs.LastWrites.{IsData}
+use Rattle.ssd_histories.specs.CallsInOrder as Calls
 use Rattle.run_laws.specs.ServedRuns.{HasData}
 use Rattle.trace_text.specs.NumberedCalls.{AreNumberedAfter, IsContentOf, IsVerbOf}
 use Rattle.ssd_top.specs.Running.{FitsDrive}
@@ -79,7 +79,7 @@ has_data sizes (Drain count) fits = tt
 has_data sizes (Age channel die sb amount) fits = tt
 
 -- the calls are numbered, and their writes have their data
-pub are_numbered : (sizes : Sizes) (actors : ℕ) (before calls : List TraceCall) → AreNumberedAfter sizes actors before calls → Runs.AreNumberedAfter actors before calls
+pub are_numbered : (sizes : Sizes) (actors : ℕ) (before calls : List TraceCall) → AreNumberedAfter sizes actors before calls → Calls.AreNumberedAfter actors before calls
 are_numbered sizes actors before [] numbered = tt
 are_numbered sizes actors before (call ∷ calls) numbered =
     (record { is_actor = numbered.0.actor; is_number = numbered.0.number }, are_numbered sizes actors (before ++ call ∷ []) calls numbered.1)

@@ -7,7 +7,7 @@ use Rattle.std.proofs.lemmas.List.{append-nil}
 use Rattle.rand_core.specs.Steps.{fill_via_u64, word_bytes}
 use Rattle.rand_xoshiro.specs.SplitMix64.{mix_u64}
 use Rattle.ssd_geo.specs.Noise.{noise_word, state_after}
-use Rattle.ssd_geo.specs.TraceText.{generated_bytes}
+use Rattle.ssd_formats.specs.TraceText.{generated_bytes}
 
 -- the bytes of a word
 abbrev bytes_of_word : ℕ → ℕ → List ℕ

@@ -23,7 +23,9 @@ pub mod ReadInputs
 pub mod RunningCalls
 pub mod RunsOfInputs
 pub mod SameSizes
+pub mod ServedVerbs
 pub mod SmallBytes
+pub mod StopCounts
 pub mod TraceRuns
 pub mod WordsGiveData
 pub mod ZeroWords

@@ -14,7 +14,7 @@ use Rattle.ssd_geo.specs.Senses.{hard_values}
 use Rattle.ssd_geo.specs.declared.base.ChannelBase.{ChannelBase}
 use Rattle.ssd_geo.specs.declared.cell_law.CellLaw.{CellLaw}
 use Rattle.run_laws.specs.FirstSenses.{ReadsBack, WordIsRead}
-use Rattle.run_laws.specs.ServedPasts.{IsData}
+use Rattle.ssd_histories.specs.LastWrites.{IsData}
 use Rattle.run_laws.proofs.ReadPages.{pages_are_read}
 use Rattle.ssd_top.specs.Noiseless.{IsNoiseless, NoiselessPagesAreReadAtOnce}
 use Rattle.ssd_top.proofs.CheckedWords.{failed_checks-codeword}

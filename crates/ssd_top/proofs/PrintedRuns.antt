@@ -1,8 +1,13 @@
 -- The status of a run that was printed tells whether it was whole, or where it stopped.
 use Rattle.std.proofs.Common.{ℕ, ◌≡◌, List, Option, Some, None, refl, subst}
-use Rattle.ssd_geo.specs.Numbers.{Text}
+use Rattle.run_laws.specs.Headline.{Headline, IsStoppedRun, IsWholeRun}
+use Rattle.run_laws.specs.Runs.{Run, text_of_run}
+use Rattle.ssd_formats.specs.ImageHead.{Head}
+use Rattle.ssd_formats.specs.Input.{Input}
+use Rattle.ssd_formats.specs.Numbers.{Text}
 use Rattle.ssd_top.specs.Printed.{status_after, text_of}
-use Rattle.ssd_top.specs.Serving.{HasServed, IsRunText, Serves}
+use Rattle.ssd_top.specs.Handed.{IsRunOf}
+use Rattle.ssd_top.specs.Serving.{EndsAt, Ends, HasServed, WasRead}
 use Rattle.ssd_top.specs.declared.printed.Printed.{Printed}
 use Rattle.ssd_top.specs.declared.status.Status.TheVariants.{Done, HistoryLimit}
 
@@ -17,13 +22,36 @@ has_stopped (Some stop) channel entries is =
     let same_entries : stop.1 ≡ entries = cc in
     λ i. Some (same_channel i, same_entries i)
 
--- what was served and printed
-pub serves : (before after : Option (List ℕ)) (printed : Printed) (stop : Option (ℕ × ℕ)) (IsPrinted : Text → Type 0)
-    → HasServed before after printed → printed.full ≡ stop → IsPrinted (text_of printed) → Serves before after stop IsPrinted
-serves before after printed stop IsPrinted has full is_printed = record {
-  input = has.input;
-  is_served_from = has.is_served_from;
-  text = text_of printed;
-  is_text_of = subst (λ (other : Option (ℕ × ℕ)). IsRunText has.input other (text_of printed)) full has.of_input.is_text_of;
-  is_printed = is_printed;
-}
+-- what was served and printed is a run of the input: a whole one, one that stopped, or either
+module _ (before after : Option (List ℕ)) (printed : Printed) (has : HasServed before after printed)
+    (IsPrinted : Text → Type 0) (is_printed : IsPrinted (text_of printed)) where
+  abbrev Serves : (Head → Run → Type 0) → Type 0
+  Serves Ended =
+      (asked : Input) × (run : Run) × (text : Text) × WasRead before after asked × IsRunOf asked run
+      × Headline asked.head run × Ended asked.head run × (text ≡ text_of_run asked.head run) × IsPrinted text
+
+  serves : (Ended : Head → Run → Type 0) → Ended has.asked.head has.of_input.run → Serves Ended
+  serves Ended ended = (
+    has.asked,
+    has.of_input.run,
+    text_of printed,
+    has.was_read,
+    has.of_input.is_run,
+    has.of_input.headline,
+    ended,
+    has.of_input.is_text,
+    is_printed,
+  )
+
+  pub serves_whole : printed.full ≡ None → Serves IsWholeRun
+  serves_whole full =
+      serves IsWholeRun (subst (EndsAt has.asked.head has.of_input.run) full has.of_input.ends)
+
+  pub serves_stopped : (channel entries : ℕ) → printed.full ≡ Some (channel, entries)
+      → Serves (λ head run. IsStoppedRun head run channel entries)
+  serves_stopped channel entries full =
+      serves (λ head run. IsStoppedRun head run channel entries)
+      (subst (EndsAt has.asked.head has.of_input.run) full has.of_input.ends)
+
+  pub serves_some : Serves Ends
+  serves_some = serves Ends (printed.full, has.of_input.ends)

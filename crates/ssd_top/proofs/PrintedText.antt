@@ -1,7 +1,7 @@
 -- The text of what is printed, off lists that are those that are printed.
 use Rattle.std.proofs.Common.{ℕ, ◌≡◌, List, length, refl}
 use Rattle.std.specs.Prelude.{true}
-use Rattle.ssd_geo.specs.RunText.{run_text}
+use Rattle.ssd_formats.specs.RunText.{run_text}
 use Rattle.ssd_geo.specs.declared.entry.Entry.{Entry}
 use Rattle.ssd_geo.specs.declared.reply.CallKind.{CallKind}
 use Rattle.ssd_geo.specs.declared.reply.Reply.{Reply}

@@ -1,37 +1,51 @@
 -- A run that was served so far: what holds of the channel of its next call, that the run goes on
 -- after that call, and that it stops where the channel's history has no room.
-use Rattle.std.proofs.Common.{ℕ, zero, suc, ◌≡◌, ◌+◌, ◌%◌, ◌<◌, ◌≤◌, ◌==◌, nat_lt, true, List, [], ◌∷◌, ◌++◌, length, Some, refl, sym, ap, subst, ◌∙◌, inl, inr, arith, length-set}
+use Rattle.std.proofs.Common.{ℕ, zero, suc, ◌≡◌, ◌+◌, ◌%◌, ◌<◌, ◌≤◌, ◌==◌, nat_lt, true, false, List, [], ◌∷◌, ◌++◌, length, Some, refl, sym, ap, subst, ◌∙◌, inl, inr, arith, length-set}
 use Rattle.std.specs.Prelude.{All, Bool, IsTrue, slice_get, slice_set, option_map}
 use Rattle.std.proofs.lemmas.Bool.Decides.{nat_tests}
-use Rattle.std.proofs.lemmas.List.{length-map, map-set}
+use Rattle.std.specs.List.{list_all}
+use Rattle.std.proofs.lemmas.List.{length-append, length-map, map-set}
+use Rattle.std.proofs.lemmas.List.Sums.{count_by-le-length}
 use Rattle.std.proofs.lemmas.Option.{slice_get-map, slice_get_within}
 use Rattle.chan_calls.specs.Workers.{WorkerState}
 use Rattle.chan_state.specs.ChannelState.{ChannelState, StandsFor}
-use Rattle.run_laws.specs.Headline.{contents_in}
-use Rattle.run_laws.specs.ServedCalls.{IsServedBy}
-use Rattle.run_laws.specs.ServedRuns.{AreNumberedAfter, AreStartsOf, IsServedRun, ServesNext, channel_of, with_reply}
-use Rattle.run_laws.specs.StoppedRuns.{IsPlainVerb, WouldFindRoom, room_wanted}
+use Rattle.run_laws.specs.Headline.{CountsAll}
+use Rattle.run_laws.specs.Runs.{FaultCounts, runs_with}
+use Rattle.run_laws.specs.ServedPasts.{IsPlainPast}
+use Rattle.ssd_histories.specs.CallsInOrder.{ChannelRun, AreNumberedAfter}
+use Rattle.ssd_formats.specs.HistoryText.{is_spelled_entry}
+use Rattle.run_laws.specs.ServedRuns.{contents_in, AreStartsOf, IsServedRun, ServesNext, channel_of, with_reply}
+use Rattle.ssd_histories.specs.ServedCalls.{IsServedBy}
+use Rattle.run_laws.specs.StoppedRuns.{IsPlainVerb, WouldFindRoom, has_first_room}
 use Rattle.run_laws.specs.WrittenRoom.{HasBlankBlocks, is_write_to, pages_that_fit, writes_to}
-use Rattle.run_laws.proofs.ChangedRuns.{all_at, get_set, get_set_other, one_or_other}
-use Rattle.run_laws.proofs.NumberedCalls.{tags_give_data}
+use Rattle.run_laws.proofs.ChangedRuns.{all_at, get_set, get_set_other, one_or_other, run_at}
+use Rattle.run_laws.proofs.NumberedCalls.{numbered_next, tags_give_data}
 use Rattle.run_laws.proofs.ServedNext.{serves_one_more}
 use Rattle.run_laws.proofs.ServedRoom.{served_runs_have_room}
+use Rattle.run_laws.proofs.SparedChannels.{serves_find_room, serves_spare_dies}
+use Rattle.run_laws.proofs.SpelledCalls.{IsSmallVerb, Keeps, serves_spelled}
+use Rattle.run_laws.proofs.SpelledPasts.{IsSmallTag}
 use Rattle.run_laws.proofs.UsedRoom as Lists
-use Rattle.ssd_geo.specs.History.{open_looks}
-use Rattle.ssd_geo.specs.Input.{Input}
-use Rattle.ssd_geo.specs.Room.{has_host_room}
-use Rattle.ssd_geo.specs.Start.{Start, data_of}
-use Rattle.ssd_geo.specs.TraceText.{content_bytes, contents_of}
+use Rattle.ssd_geo.specs.Faults.{RoseBy}
+use Rattle.ssd_histories.specs.HistoryRoom.{found_room}
+use Rattle.ssd_histories.specs.Standing.{CountsFaults, count_at, faults_of}
+use Rattle.ssd_formats.specs.Input.{Input}
+use Rattle.ssd_histories.specs.Room.{has_host_room}
+use Rattle.ssd_histories.specs.Start.{Start, data_of}
+use Rattle.ssd_formats.specs.TraceText.{content_bytes, contents_of, is_of_actor}
 use Rattle.ssd_geo.specs.declared.entry.Entry.{Entry}
 use Rattle.ssd_geo.specs.declared.reply.Reply.{Reply}
+use Rattle.ssd_geo.specs.declared.tag.Tag.{Tag}
 use Rattle.ssd_geo.specs.declared.shape.Shape.{Shape}
 use Rattle.ssd_geo.specs.declared.trace.Content.{Content}
 use Rattle.ssd_geo.specs.declared.trace.TraceCall.{TraceCall}
 use Rattle.ssd_geo.specs.declared.trace.Verb.{Verb}
 use Rattle.ssd_top.specs.ChannelCalls.{HasOwnData, MayServe, IsRefusedOn, IsServedOn}
+use Rattle.ssd_top.specs.Handed.{no_faults}
 use Rattle.ssd_top.specs.Forms.{are_served, is_served_verb}
 use Rattle.ssd_top.specs.Running.{FitsDrive, HasStopped, IsChannelOf, IsRunning, pasts_of}
 use Rattle.ssd_top.proofs.FittingCalls.{write_fits}
+use Rattle.ssd_top.proofs.ServedVerbs.{all_plain, channel_low, own_channel, small_verb}
 use Rattle.ssd_top.proofs.InputChannels as Inputs
 
 -- the past of a channel
@@ -59,45 +73,17 @@ call_there : (done : List TraceCall) (call : TraceCall) (rest : List TraceCall) 
 call_there [] call rest = refl
 call_there (first ∷ done) call rest = call_there done call rest
 
--- a verb that is served is one of those that the laws of runs speak of
-plain_of : (verb : Verb) → is_served_verb verb ≡ true → IsPlainVerb verb
-plain_of (Verb.Write page content) is = tt
-plain_of (Verb.Read page) is = tt
-plain_of (Verb.Trim page) is = tt
-plain_of (Verb.Age channel die sb amount) is = tt
-plain_of (Verb.Refresh page) is = absurd (cc)
-plain_of (Verb.Collect channel) is = absurd (cc)
-plain_of (Verb.Drain count) is = absurd (cc)
-
-all_plain : (calls : List TraceCall) → IsTrue (are_served calls) →
-    All (λ call. IsPlainVerb call.verb) calls
-all_plain calls served k call low =
-    plain_of _ (Lists.all_at (λ (other : TraceCall). is_served_verb other.verb) calls k call served
-    low)
-
--- a page's channel is its own
-own_channel : (channels page : ℕ) → (page % channels == page % channels) ≡ true
-own_channel channels page = itself (page % channels)
-  where
-    itself : (n : ℕ) → (n == n) ≡ true
-    itself n = grind (arith, nat_tests)
-
--- the channel of a verb that fits the drive is one of its channels
-channel_low : (shape : Shape) (n k : ℕ) (verb : Verb) → 0 < n → channel_of n verb ≡ Some k →
-    FitsDrive shape n verb → k < n
-channel_low shape n k (Verb.Write page content) some on fits =
-    let own : page % n ≡ k = cc in omega (arith, own)
-channel_low shape n k (Verb.Read page) some on fits =
-    let own : page % n ≡ k = cc in omega (arith, own)
-channel_low shape n k (Verb.Trim page) some on fits =
-    let own : page % n ≡ k = cc in omega (arith, own)
-channel_low shape n k (Verb.Age channel die sb amount) some on fits =
-    let own : channel ≡ k = cc in
-    let low : channel < n = fits.0 in
-    omega (arith, own, low)
-channel_low shape n k (Verb.Refresh page) some on fits = absurd (cc)
-channel_low shape n k (Verb.Collect channel) some on fits = absurd (cc)
-channel_low shape n k (Verb.Drain count) some on fits = absurd (cc)
+-- dies count as many faults after entries that tell of no more
+counts_on : (start : Start) (die : ℕ) (before after : List Entry) (counts : FaultCounts) →
+    faults_of die after ≡ faults_of die before →
+    CountsFaults start before die (count_at counts.work die) (count_at counts.load die) →
+    CountsFaults start after die (count_at counts.work die) (count_at counts.load die)
+counts_on start die before after counts same counted = record {
+  work_rose =
+      subst (λ faults. RoseBy faults (count_at start.work_faults die) (count_at counts.work die))
+      (sym same) counted.work_rose;
+  load_stays = counted.load_stays;
+}
 
 module _ (input : Input) (worker : WorkerState) (channels : List ChannelState)
     (done : List TraceCall) (replies : List (List Reply))
@@ -141,10 +127,34 @@ module _ (input : Input) (worker : WorkerState) (channels : List ChannelState)
       on_start : channel_of (length running.starts) call.verb ≡ Some k
       on_start = subst (λ n. channel_of n call.verb ≡ Some k) (sym many_starts) on
 
-      no_look : length old.looks ≡ 0
-      no_look =
-          ap length (of_run.stands.looks_are ∙ all_at (λ past. open_looks past ≡ [])
-          (pasts_of channels) k old.past running.served.none_open has_past)
+      abbrev contents_here : List (Tag × List ℕ)
+      contents_here = contents_in input
+
+      -- the past is that of writes, trims, reads and ageings
+      plain : IsPlainPast start contents_here old.past
+      plain =
+          all_at (λ (run : ChannelRun). IsPlainPast run.start contents_here run.past)
+          (runs_with running.starts (pasts_of channels)) k (record { start = start; past = old.past })
+          running.served.are_plain
+          (run_at running.starts (pasts_of channels) k start old.past there.1 has_past)
+
+      -- the numbers of the call's tag fit their fields
+      small_tag : IsSmallTag call.tag
+      small_tag =
+          let number =
+          numbered_next input.calls.actors [] done call rest
+          (subst (λ calls. AreNumberedAfter input.calls.actors [] calls) split
+          running.served.is_served_from.numbered) in
+          let actor = number.is_actor in
+          let actors = running.few_actors in
+          let is_number = number.is_number in
+          let counted = count_by-le-length (is_of_actor call.tag.actor) done in
+          let long = ap length split ∙ length-append done (call ∷ rest) in
+          let calls = running.few_calls in
+          record {
+            actor = omega (arith, actor, actors);
+            call = omega (arith, is_number, counted, long, calls);
+          }
 
       -- the data of a write are those of its tag
       own_write : (page : ℕ) (content : Content) → call.verb ≡ Verb.Write page content →
@@ -232,12 +242,18 @@ module _ (input : Input) (worker : WorkerState) (channels : List ChannelState)
       }
 
       -- the channels with one that stands for its start
-      module _ (new : ChannelState) (stands : StandsFor new start (contents_in input)) where
+      module _ (new : ChannelState) (stands : StandsFor new start (contents_in input))
+          (has_room : found_room start.limit new.past ≡ true)
+          (counts : CountsAll (record { start = start; past = new.past }) (no_faults input.head))
+          (spelled : list_all is_spelled_entry new.past ≡ true) (short : length new.past ≤ start.limit) where
         new_is : IsChannelOf input worker start new
         new_is = record {
           works = of_run.works;
           stands = stands;
-          limit_is = stands.limit_is ∙ sym of_run.stands.limit_is ∙ of_run.limit_is;
+          has_room = has_room;
+          counts = counts;
+          spelled = spelled;
+          short = short;
         }
 
         are_channels : (n : ℕ) (other : Start) (channel : ChannelState) →
@@ -265,9 +281,13 @@ module _ (input : Input) (worker : WorkerState) (channels : List ChannelState)
             IsRunning input worker (slice_set channels k new) calls answers
         after calls answers served = record {
           starts = running.starts;
+          starts_are = running.starts_are;
+          sizes_are = running.sizes_are;
           served = served;
           are_channels = are_channels;
           few_channels = subst (λ n. n ≤ 8) (sym (length-set channels k new)) running.few_channels;
+          few_actors = running.few_actors;
+          few_calls = running.few_calls;
           fits =
               subst (λ n. All (λ call. FitsDrive worker.shape n call.verb) input.calls.calls)
               (sym (length-set channels k new)) running.fits;
@@ -283,7 +303,24 @@ module _ (input : Input) (worker : WorkerState) (channels : List ChannelState)
           (with_reply replies call.tag.actor reply)
       goes_on new reply serves =
           let made =
-          serves start (contents_in input) of_run.works of_run.stands (own_data call.verb refl) in
+          serves.1 start (contents_in input) of_run.works of_run.stands
+          (own_data call.verb refl) in
+          let has_room : found_room start.limit new.past ≡ true =
+          serves_find_room start (contents_in input) (length channels) call.tag reply old.past
+          new.past start.limit call.verb made.1 of_run.has_room
+          (subst (λ limit. has_first_room limit old.past call.verb ≡ true) of_run.stands.limit_is
+          serves.0) in
+          let counts : CountsAll (record { start = start; past = new.past }) (no_faults input.head) =
+          λ die low. counts_on start die old.past new.past (no_faults input.head)
+          (serves_spare_dies start (contents_in input) (length channels) call.tag reply old.past
+          new.past die call.verb made.1) (of_run.counts die low) in
+          let kept : Keeps start contents_here of_run.stands.is_past.is_start call.tag small_tag old.past
+          new.past plain made.0.is_past.is_lawful of_run.spelled new.past =
+          serves_spelled start contents_here of_run.stands.is_past.is_start call.tag small_tag old.past
+          new.past plain made.0.is_past.is_lawful of_run.spelled (length channels) call.verb reply
+          (small_verb worker.shape (length channels) call.verb fits) made.1
+          (subst (λ limit. has_first_room limit old.past call.verb ≡ true) of_run.stands.limit_is
+          serves.0) in
           let next : ServesNext input running.starts (pasts_of channels) call reply k new.past =
           record {
             start = start;
@@ -296,7 +333,7 @@ module _ (input : Input) (worker : WorkerState) (channels : List ChannelState)
                 new.past) (sym many_starts) made.1;
             is_lawful = made.0.is_past.is_lawful;
           } in
-          after new made.0 (done ++ call ∷ []) (with_reply replies call.tag.actor reply)
+          after new made.0 has_room counts kept.0 kept.1 (done ++ call ∷ []) (with_reply replies call.tag.actor reply)
           (subst (λ pasts. IsServedRun input running.starts (done ++ call ∷ [])
           (with_reply replies call.tag.actor reply) pasts) (sym (map-set past_in channels k new))
           (serves_one_more input running.starts done rest replies (pasts_of channels) call reply k
@@ -309,7 +346,7 @@ module _ (input : Input) (worker : WorkerState) (channels : List ChannelState)
       unfolding after
       stops new entries refused =
           let stands =
-          refused.1 start (contents_in input) of_run.works of_run.stands
+          refused.2 start (contents_in input) of_run.works of_run.stands
           (own_data call.verb refl) in
           let full = refused.0 in
           let same : pasts_of (slice_set channels k new) ≡ pasts_of channels =
@@ -320,7 +357,15 @@ module _ (input : Input) (worker : WorkerState) (channels : List ChannelState)
             done = done;
             call = call;
             running =
-                after new stands done replies (subst
+                after new stands
+                (subst (λ past. found_room start.limit past ≡ true) (sym full.past_stays)
+                of_run.has_room)
+                (λ die low. counts_on start die old.past new.past (no_faults input.head)
+                (ap (faults_of die) full.past_stays) (of_run.counts die low))
+                (subst (λ past. list_all is_spelled_entry past ≡ true) (sym full.past_stays)
+                of_run.spelled)
+                (subst (λ past. length past ≤ start.limit) (sym full.past_stays) of_run.short)
+                done replies (subst
                 (λ pasts. IsServedRun input running.starts done replies pasts) (sym same)
                 running.served);
             stops = record {
@@ -335,7 +380,7 @@ module _ (input : Input) (worker : WorkerState) (channels : List ChannelState)
               finds_room = finds_room call.verb refl;
               has_length = sym full.entries_are;
               no_room =
-                  subst (λ n. n < entries + room_wanted call.verb) of_run.limit_is
-                  (full.no_room no_look);
+                  subst (λ limit. has_first_room limit old.past call.verb ≡ false)
+                  of_run.stands.limit_is refused.1;
             };
           }

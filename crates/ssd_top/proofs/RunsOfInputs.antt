@@ -1,29 +1,43 @@
 -- When calls of an input were served, all or those before a stop, what was made to be printed is of
 -- a run of the input.
-use Rattle.std.proofs.Common.{ℕ, ◌≡◌, ◌-◌, ◌<◌, ◌≤◌, List, [], ◌∷◌, Option, Some, None, true, length, map, refl, sym, ap, subst, ◌∙◌, arith}
+use Rattle.std.proofs.Common.{ℕ, zero, suc, ◌≡◌, ◌-◌, ◌<◌, ◌≤◌, List, [], ◌∷◌, Option, Some, None, true, length, map, refl, sym, ap, subst, ◌∙◌, arith}
 use Rattle.std.proofs.lemmas.List.FromFn.{get_or-map-range_with_len, length-map-range_with_len}
-use Rattle.std.specs.Prelude.{slice_index_or, sum_by}
+use Rattle.std.proofs.lemmas.List.{length-map}
+use Rattle.std.proofs.lemmas.List.Elements.{All-cons, All-nil}
+use Rattle.std.proofs.lemmas.Option.{slice_get_within}
+use Rattle.std.specs.Prelude.{All, IsTrue, slice_get, slice_index_or, sum_by}
 use Rattle.chan_calls.specs.Workers.{WorkerState}
 use Rattle.chan_state.specs.ChannelState.{ChannelState}
 use Rattle.history_text.specs.Places.{AsLong}
 use Rattle.run_laws.proofs.RunHeadline.{served_runs_hold}
+use Rattle.run_laws.proofs.SpelledHistories.{IsSpelledPast, spelled_histories}
 use Rattle.run_laws.proofs.StoppedRuns.{served_runs_stop}
-use Rattle.run_laws.specs.ServedRuns.{HoldsOfRun, hints_in}
+use Rattle.run_laws.specs.Headline.{AreCounted, CountsAll, Headline}
+use Rattle.run_laws.specs.Runs.{Run, runs_with, text_of_run}
+use Rattle.run_laws.specs.ServedRuns.{ChannelsHold, HoldsOfRun, contents_in, hints_in, run_of_input}
 use Rattle.run_laws.specs.StoppedRuns.{HoldsOfStop}
-use Rattle.ssd_geo.specs.Fields.{is_within}
-use Rattle.ssd_geo.specs.History.{history_of}
-use Rattle.ssd_geo.specs.ImageHead.{Head, IsHead}
-use Rattle.ssd_geo.specs.Input.{Input}
-use Rattle.ssd_geo.specs.Numbers.{Text}
-use Rattle.ssd_geo.specs.RunText.{run_text, taken_by}
-use Rattle.ssd_geo.specs.SerialHistory.{most_hints}
-use Rattle.ssd_geo.specs.TraceText.{kinds_of_actor, kinds_of_trace}
+use Rattle.ssd_geo.specs.Limits.{is_within}
+use Rattle.ssd_histories.specs.CallsInOrder.{ChannelRun}
+use Rattle.ssd_histories.specs.History.{history_of}
+use Rattle.ssd_histories.specs.HistoryRoom.{found_room}
+use Rattle.ssd_histories.specs.Standing.{IsPastOf}
+use Rattle.ssd_histories.specs.Start.{Start}
+use Rattle.ssd_formats.specs.ImageContents.{ChannelImage}
+use Rattle.ssd_formats.specs.ImageHead.{Head, IsHead}
+use Rattle.ssd_formats.specs.Input.{Input}
+use Rattle.ssd_formats.specs.Numbers.{Text}
+use Rattle.ssd_formats.specs.RunText.{run_text, taken_by}
+use Rattle.ssd_histories.specs.SerialHistory.{most_hints}
+use Rattle.ssd_formats.specs.TraceText.{kinds_of_actor, kinds_of_trace}
 use Rattle.ssd_geo.specs.declared.entry.Entry.{Entry}
 use Rattle.ssd_geo.specs.declared.reply.Reply.{Reply}
+use Rattle.ssd_geo.specs.declared.trace.TraceCall.{TraceCall}
 use Rattle.ssd_top.proofs.BegunDrives.{range_is}
+use Rattle.ssd_top.proofs.InputChannels.{as_many_starts}
+use Rattle.ssd_top.specs.Handed.{IsRunOf, counted_at_end, no_faults}
 use Rattle.ssd_top.specs.Printed.{text_of}
-use Rattle.ssd_top.specs.Running.{pasts_of}
-use Rattle.ssd_top.specs.Serving.{IsOfInput, IsRunText, LeadsTo}
+use Rattle.ssd_top.specs.Running.{IsRunning, pasts_of}
+use Rattle.ssd_top.specs.Serving.{EndsAt, IsOfInput, LeadsTo}
 use Rattle.ssd_top.specs.declared.printed.Printed.{Printed}
 
 -- each actor has replies, for no more calls than it has, and no reply took a hint
@@ -50,48 +64,129 @@ text_with input channels replies =
     run_text true (length input.head.read_levels) (map history_of (pasts_of channels)) (kinds_of_trace input.calls) replies
     (hints_in replies - most_hints)
 
--- calls of an input that were served have replies that fit them, and what is printed is the text of
--- a run
+-- what holds of each channel of a run holds of all
+all_channels : (P : ChannelRun → Type 0) (starts : List Start) (channels : List ChannelState)
+    → ((n : ℕ) (start : Start) (channel : ChannelState) → slice_get starts n ≡ Some start → slice_get channels n ≡ Some channel →
+    P (record { start = start; past = channel.past }))
+    → All P (runs_with starts (pasts_of channels))
+all_channels P [] channels each = All-nil P
+all_channels P (start ∷ starts) [] each = All-nil P
+all_channels P (start ∷ starts) (channel ∷ channels) each =
+    All-cons P (record { start = start; past = channel.past }) (runs_with starts (pasts_of channels)) (each 0 start channel refl refl)
+    (all_channels P starts channels (λ n. each (suc n)))
+
+all_counted : (head : Head) (saved : List ChannelImage) (starts : List Start) (channels : List ChannelState)
+    → length saved ≡ length starts → length channels ≡ length starts
+    → ((n : ℕ) (start : Start) (channel : ChannelState) → slice_get starts n ≡ Some start → slice_get channels n ≡ Some channel →
+    CountsAll (record { start = start; past = channel.past }) (no_faults head))
+    → AreCounted (runs_with starts (pasts_of channels)) (counted_at_end head saved)
+all_counted head [] [] channels many_saved many each = tt
+all_counted head (first ∷ saved) [] channels many_saved many each = absurd (omega arith)
+all_counted head [] (start ∷ starts) channels many_saved many each = absurd (omega arith)
+all_counted head (first ∷ saved) (start ∷ starts) [] many_saved many each = absurd (omega arith)
+all_counted head (first ∷ saved) (start ∷ starts) (channel ∷ channels) many_saved many each = (
+  each 0 start channel refl refl,
+  all_counted head saved starts channels (omega arith) (omega arith) (λ n. each (suc n)),
+)
+
+-- a list has an item at a place within
+there_at : {X : Type 0} (xs : List X) (k : ℕ) → k < length xs → (x : X) × (slice_get xs k ≡ Some x)
+there_at [] k low = absurd (omega arith)
+there_at (x ∷ xs) zero low = (x, refl)
+there_at (x ∷ xs) (suc k) low = there_at xs k (omega arith)
+
+all_spelled : (channels : List ChannelState)
+    → ((n : ℕ) (channel : ChannelState) → slice_get channels n ≡ Some channel → IsSpelledPast channel.past) → All IsSpelledPast (pasts_of channels)
+all_spelled [] each = All-nil IsSpelledPast
+all_spelled (channel ∷ channels) each =
+    All-cons IsSpelledPast channel.past (pasts_of channels) (each 0 channel refl) (all_spelled channels (λ n. each (suc n)))
+
+-- what the channels of a run have by themselves
+hold : {input : Input} {worker : WorkerState} {channels : List ChannelState} {done : List TraceCall} {replies : List (List Reply)}
+    (running : IsRunning input worker channels done replies)
+    → ChannelsHold input running.starts (pasts_of channels) (counted_at_end input.head input.channels)
+hold {input} {worker} {channels} running = record {
+  are_pasts =
+      all_channels (λ run. IsPastOf run.start (contents_in input) run.past) running.starts channels
+      (λ n start channel has_start has_channel. (running.are_channels n start channel has_start has_channel).stands.is_past);
+  have_room =
+      all_channels (λ run. IsTrue (found_room run.start.limit run.past)) running.starts channels
+      (λ n start channel has_start has_channel. (running.are_channels n start channel has_start has_channel).has_room);
+  are_counted =
+      all_counted input.head input.channels running.starts channels
+      (as_many_starts input.head 0 input.channels running.starts running.served.is_served_from.are_starts)
+      (sym (length-map channels (λ (channel : ChannelState). channel.past)) ∙ running.served.as_many)
+      (λ n start channel has_start has_channel. (running.are_channels n start channel has_start has_channel).counts);
+  are_spelled = spelled_histories (pasts_of channels) few (all_spelled channels each);
+}
+  where
+    few : length (pasts_of channels) ≤ 256
+    few =
+        let many = length-map channels (λ (channel : ChannelState). channel.past) in
+        let eight = running.few_channels in
+        omega (arith, many, eight)
+
+    each : (n : ℕ) (channel : ChannelState) → slice_get channels n ≡ Some channel → IsSpelledPast channel.past
+    each n channel has_channel =
+        let many = sym running.served.as_many ∙ length-map channels (λ (other : ChannelState). other.past) in
+        let there = there_at running.starts n (subst (λ k. n < k) (sym many) (slice_get_within channels n channel has_channel)) in
+        let of = running.are_channels n there.0 channel there.1 has_channel in
+        let short = of.short in
+        let high = of.stands.is_past.is_start.limit_high in
+        record { spelled = of.spelled; short = omega (arith, short, high) }
+
+-- the run of calls of an input that were served
+abbrev run_of : {input : Input} {worker : WorkerState} {channels : List ChannelState} {done : List TraceCall} {replies : List (List Reply)}
+    → IsRunning input worker channels done replies → Run
+run_of {input} {worker} {channels} {done} {replies} running =
+    run_of_input input running.starts replies (pasts_of channels) (counted_at_end input.head input.channels)
+
+is_run_of : {input : Input} {worker : WorkerState} {channels : List ChannelState} {done : List TraceCall} {replies : List (List Reply)}
+    (running : IsRunning input worker channels done replies) → IsRunOf input (run_of running)
+is_run_of {input} {worker} running = record {
+  calls_are = refl;
+  begins = record { shape = worker.shape; sizes_are = running.sizes_are; starts_are = running.starts_are };
+  faults_are = refl;
+}
+
+-- calls of an input that were served have replies that fit them, and are a run of the input, whose text is that
 record IsOfRun (input : Input) (channels : List ChannelState) (replies : List (List Reply)) (stop : Option (ℕ × ℕ)) : Type 0 where
   fits : FitsCalls input replies
-  is_text_of : IsRunText input stop (text_with input channels replies)
+  run : Run
+  is_run : IsRunOf input run
+  headline : Headline input.head run
+  ends : EndsAt input.head run stop
+  is_text : text_with input channels replies ≡ text_of_run input.head run
 
 is_of_run : (input : Input) (worker : WorkerState) (channels : List ChannelState) (replies : List (List Reply)) (stop : Option (ℕ × ℕ))
     → LeadsTo input worker channels replies stop → IsOfRun input channels replies stop
 is_of_run input worker channels replies None running =
-    let holds : HoldsOfRun input replies (pasts_of channels) = served_runs_hold input running.starts replies (pasts_of channels) running.served in
+    let holds : HoldsOfRun input (run_of running) =
+    served_runs_hold input running.starts replies (pasts_of channels) (counted_at_end input.head input.channels) running.served (hold running) in
     record {
       fits = record {
         as_many_actors = running.served.as_many_actors;
         few = λ actor low. omega (arith, holds.as_many_replies actor low);
         none_taken = holds.none_taken;
       };
-      is_text_of = record {
-        histories = map history_of (pasts_of channels);
-        replies = replies;
-        dropped = hints_in replies - most_hints;
-        is_text = refl;
-        all_answered = holds.all_answered;
-        headline = holds.headline;
-        in_order = holds.in_order;
-      };
+      run = run_of running;
+      is_run = is_run_of running;
+      headline = holds.headline;
+      ends = holds.is_whole;
+      is_text = refl;
     }
 is_of_run input worker channels replies (Some stop) stopped =
-    let holds : HoldsOfStop input replies (pasts_of channels) stop.0 stop.1 =
-    served_runs_stop input stopped.running.starts stopped.done replies (pasts_of channels) stopped.call stop.0 stop.1
-    stopped.running.served stopped.stops in
+    let running = stopped.running in
+    let holds : HoldsOfStop input (run_of running) stop.0 stop.1 =
+    served_runs_stop input running.starts stopped.done replies (pasts_of channels) (counted_at_end input.head input.channels) stopped.call
+    stop.0 stop.1 running.served stopped.stops (hold running) in
     record {
-      fits = record { as_many_actors = holds.as_many_actors; few = holds.few_replies; none_taken = holds.none_taken };
-      is_text_of = record {
-        histories = map history_of (pasts_of channels);
-        replies = replies;
-        dropped = hints_in replies - most_hints;
-        hints = holds.hints;
-        is_text = refl;
-        headline = holds.headline;
-        is_stop = holds.is_stop;
-        is_full = holds.is_full;
-      };
+      fits = record { as_many_actors = running.served.as_many_actors; few = holds.few_replies; none_taken = holds.none_taken };
+      run = run_of running;
+      is_run = is_run_of running;
+      headline = holds.headline;
+      ends = holds.is_stopped;
+      is_text = refl;
     }
 
 -- a head has at most 16 read levels
@@ -135,7 +230,9 @@ is_of_input input worker channels replies stop printed leads holds =
         dropped = rw (holds.dropped, holds.replies_are) few_hints;
         none_taken = rw holds.replies_are of.fits.none_taken;
       };
-      is_text_of =
-          subst (λ (other : Option (ℕ × ℕ)). IsRunText input other (text_of printed)) (sym holds.full)
-          (subst (IsRunText input stop) text of.is_text_of);
+      run = of.run;
+      is_run = of.is_run;
+      headline = of.headline;
+      ends = subst (λ (other : Option (ℕ × ℕ)). EndsAt input.head of.run other) (sym holds.full) of.ends;
+      is_text = sym text ∙ of.is_text;
     }

@@ -2,7 +2,7 @@
 use Rattle.std.proofs.Common.{◌≡◌, ℕ}
 use mathlib.Core.HLevel.{is_prop→PathP}
 use denote.Struct.Props.{props}
-use Rattle.ssd_geo.specs.ImageHead.{Sizes, sizes_of}
+use Rattle.ssd_formats.specs.ImageHead.{Sizes, sizes_of}
 use Rattle.ssd_geo.specs.Limits.{IsWithinLimits}
 use Rattle.ssd_geo.specs.declared.shape.Shape.{Shape}
 

@@ -1,17 +1,18 @@
 -- The calls of a trace one after the other: after so many of them a run that began with the trace
 -- has their replies, and the next call is one of that run.
-use Rattle.std.proofs.Common.{ℕ, suc, ◌≡◌, ◌+◌, ◌<◌, ◌≤◌, Some, Bool, true, false, cond, List, [], ◌∷◌, ◌++◌, length, map, take, drop, refl, sym, ap, subst, ◌∙◌, arith, drop-cons, length-append, length-drop}
+use Rattle.std.proofs.Common.{ℕ, suc, ◌≡◌, ◌+◌, ◌<◌, ◌≤◌, Some, Bool, true, false, cond, List, [], ◌∷◌, ◌++◌, length, map, replicate, take, drop, refl, sym, ap, subst, ◌∙◌, arith, drop-cons, length-append, length-drop}
 use mir.Val.{bool_byte}
 use Rattle.std.specs.Prelude.{slice_get, slice_set, slice_index_or, option_map}
-use Rattle.std.proofs.lemmas.List.{length-take-le, map-set, take-append-drop, take_more}
+use Rattle.std.proofs.lemmas.List.{length-take-le, map-set, take-append-drop, take_all, take_more}
 use Rattle.std.proofs.lemmas.Option.{get_or_from_slice_get, slice_get-get_or, slice_get-map}
 use Rattle.chan_calls.specs.Workers.{WorkerState}
 use Rattle.chan_state.specs.ChannelState.{ChannelState}
-use Rattle.run_laws.specs.ServedRuns.{AreNumberedAfter, with_reply}
+use Rattle.ssd_histories.specs.CallsInOrder.{AreNumberedAfter}
+use Rattle.run_laws.specs.ServedRuns.{with_reply}
 use Rattle.run_laws.proofs.NumberedCalls.{numbered_next}
 use Rattle.run_laws.proofs.ServedOrder.{one_hint}
-use Rattle.ssd_geo.specs.Input.{Input}
-use Rattle.ssd_geo.specs.RunText.{is_hinted}
+use Rattle.ssd_formats.specs.Input.{Input}
+use Rattle.ssd_formats.specs.RunText.{is_hinted}
 use Rattle.ssd_geo.specs.declared.reply.Reply.{Reply}
 use Rattle.ssd_geo.specs.declared.trace.Trace.{Trace}
 use Rattle.ssd_geo.specs.declared.trace.TraceCall.{TraceCall}
@@ -69,6 +70,17 @@ around calls n call low is =
     (sym is)
 
 module _ (worker : WorkerState) (old : List ChannelState) (trace : Trace) where
+  -- after the last call all were served
+  pub runs_whole : (new : List ChannelState) (replies : List (List Reply)) (n : ℕ) (calls : List TraceCall) →
+      calls ≡ trace.calls → length calls ≤ n → RunsTo worker old new trace (take n trace.calls) replies →
+      (input : Input) → input.calls ≡ trace → IsRunning input worker old [] (replicate trace.actors []) →
+      IsRunning input worker new input.calls.calls replies
+  runs_whole new replies n calls are high runs input is_trace began =
+      let all : take n trace.calls ≡ input.calls.calls =
+      take_all n trace.calls (subst (λ list. length list ≤ n) are high)
+      ∙ sym (ap (λ (other : Trace). other.calls) is_trace) in
+      subst (λ done. IsRunning input worker new done replies) all (runs input is_trace began)
+
   module _ (here : WorkerState) (stays : here ≡ worker) (new : List ChannelState)
       (replies : List (List Reply)) (n : ℕ) (calls : List TraceCall) (are : calls ≡ trace.calls)
       (call : TraceCall) (runs : RunsTo worker old new trace (take n trace.calls) replies)

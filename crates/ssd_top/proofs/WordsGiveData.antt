@@ -13,11 +13,12 @@ use Rattle.ssd_geo.specs.Codewords.{IsOnlyCodewordOf, payload_bits, word_bits, w
 use Rattle.ssd_geo.specs.Coding.{coding_of, data_in, matrix_of}
 use Rattle.ssd_geo.specs.Limits.{payload_bytes_of, word_bytes_of}
 use Rattle.ssd_geo.specs.PageHead.{are_zeros, data_of_word, head_of_page, payload_of_page}
-use Rattle.ssd_geo.specs.Replies.{bytes_of_word}
+use Rattle.ssd_histories.specs.Replies.{bytes_of_word}
 use Rattle.ssd_geo.specs.declared.base.ChannelBase.{ChannelBase}
 use Rattle.ssd_geo.proofs.Payloads.{payloads_give_their_bytes, payloads_have_their_length}
 use Rattle.ldpc_encode.proofs.TheWord.{only-codeword}
-use Rattle.run_laws.specs.ServedPasts.{IsData, WordsGiveData}
+use Rattle.ssd_histories.specs.LastWrites.{IsData}
+use Rattle.run_laws.specs.ServedPasts.{WordsGiveData}
 use Rattle.ssd_bits.proofs.Sums.{same-bytes}
 use Rattle.ssd_top.proofs.SmallBytes.{AreSmall, length_of_bits, payload_small, small_anywhere, small_of_bits}
 

@@ -3,9 +3,9 @@
 use Rattle.std.specs.Prelude.{ℕ, ◌≡◌, List, length, slice_get, Some}
 use Rattle.chan_calls.specs.Workers.{WorkerState}
 use Rattle.chan_state.specs.ChannelState.{ChannelState, HasBegun}
-use Rattle.run_laws.specs.StoppedRuns.{history_limit}
-use Rattle.ssd_geo.specs.ImageContents.{IsBaseOf, blank_channel}
-use Rattle.ssd_geo.specs.ImageHead.{Head, matrix_of, sizes_of}
+use Rattle.ssd_top.specs.Handed.{history_limit}
+use Rattle.ssd_formats.specs.ImageContents.{IsBaseOf, blank_channel}
+use Rattle.ssd_formats.specs.ImageHead.{Head, matrix_of_head, sizes_of}
 use Rattle.ssd_geo.specs.declared.base.ChannelBase.{ChannelBase}
 
 -- a worker has the sizes, the session, the code, the iterations, the read levels and the distance
@@ -13,7 +13,7 @@ use Rattle.ssd_geo.specs.declared.base.ChannelBase.{ChannelBase}
 pub record IsWorkerOf (head : Head) (worker : WorkerState) : Type 0 where
   pub sizes_are : sizes_of worker.shape ≡ head.sizes
   pub session_is : worker.session ≡ head.session
-  pub code_is : worker.code ≡ matrix_of head
+  pub code_is : worker.code ≡ matrix_of_head head
   pub iterations_are : worker.iterations ≡ head.iterations
   pub levels_are : worker.levels ≡ head.read_levels
   pub step_is : worker.step ≡ head.step

@@ -1,14 +1,15 @@
 -- When may a worker serve a call on a channel, and what comes of it? Whatever the channel stood
 -- for, with the data of the call, it stands for after the call. A call that finds no room in the
 -- channel's history leaves the history as it was.
-use Rattle.std.specs.Prelude.{ℕ, ◌≡◌, ◌⊎◌, ◌+◌, ◌<◌, IsTrue, List, length, Result, Ok, Err, ⊤}
+use Rattle.std.specs.Prelude.{ℕ, ◌≡◌, ◌⊎◌, true, false, IsTrue, List, length, Result, Ok, Err, ⊤}
 use Rattle.chan_calls.specs.Workers.{WorkerState, WorksFor}
 use Rattle.chan_state.specs.ChannelState.{ChannelState, StandsFor}
-use Rattle.run_laws.specs.ServedCalls.{HasFoundNone, HasReadPage, HasWritten, IsServedBy}
-use Rattle.run_laws.specs.StoppedRuns.{WouldFindRoom, room_wanted}
-use Rattle.ssd_geo.specs.Room.{has_host_room}
-use Rattle.ssd_geo.specs.Start.{Start, data_of}
-use Rattle.ssd_geo.specs.TraceText.{content_bytes}
+use Rattle.ssd_histories.specs.ServedCalls.{HasFoundNone, HasReadPage, HasWritten, IsServedBy}
+use Rattle.run_laws.specs.StoppedRuns.{WouldFindRoom, has_first_room}
+use Rattle.ssd_histories.specs.HistoryRoom.{has_look_room, has_step_room}
+use Rattle.ssd_histories.specs.Room.{has_host_room}
+use Rattle.ssd_histories.specs.Start.{Start, data_of}
+use Rattle.ssd_formats.specs.TraceText.{content_bytes}
 use Rattle.ssd_geo.specs.declared.reply.Reply.{Reply}
 use Rattle.ssd_geo.specs.declared.stop.StepStop.{StepStop}
 use Rattle.ssd_geo.specs.declared.tag.Tag.{Tag}
@@ -49,52 +50,61 @@ KeepsWith worker Holds old new =
     (start : Start) (contents : List (Tag × List ℕ)) → WorksFor worker start →
     StandsFor old start contents → Holds contents → StandsFor new start contents
 
+-- the first entry of a call found room in the history of its channel, or there was none
+abbrev pub FindsRoom : ChannelState → Verb → Type 0
+FindsRoom channel verb = has_first_room channel.limit channel.past verb ≡ true
+
+abbrev pub LacksRoom : ChannelState → Verb → Type 0
+LacksRoom channel verb = has_first_room channel.limit channel.past verb ≡ false
+
 -- data were written to a row
 abbrev pub IsRowWritten : WorkerState → ChannelState → ChannelState → Tag → ℕ → Content → Reply →
     Type 0
 IsRowWritten worker old new tag row content reply =
     (reply ≡ Reply.Ok) × HasWritten tag row old.past new.past
+    × (has_step_room old.limit old.past ≡ true)
     × KeepsWith worker (λ contents. data_of contents tag ≡ content_bytes worker.shape.bytes content)
     old new
 
 -- a row was read
 abbrev pub IsRowRead : WorkerState → ChannelState → ChannelState → Tag → ℕ → Reply → Type 0
 IsRowRead worker old new tag row reply =
-    (start : Start) (contents : List (Tag × List ℕ)) → WorksFor worker start →
+    (has_look_room old.limit old.past ≡ true)
+    × ((start : Start) (contents : List (Tag × List ℕ)) → WorksFor worker start →
     StandsFor old start contents →
     StandsFor new start contents
     × (HasFoundNone tag row old.past new.past reply
-    ⊎ HasReadPage start contents tag row old.past new.past reply)
+    ⊎ HasReadPage start contents tag row old.past new.past reply))
 
--- a call was served on one of so many channels
+-- a call was served on one of so many channels, whose history had room for it
 abbrev pub IsServedOn : WorkerState → ℕ → ChannelState → ChannelState → Tag → Verb → Reply → Type 0
 IsServedOn worker channels old new tag verb reply =
-    (start : Start) (contents : List (Tag × List ℕ)) → WorksFor worker start →
+    FindsRoom old verb
+    × ((start : Start) (contents : List (Tag × List ℕ)) → WorksFor worker start →
     StandsFor old start contents → HasOwnData worker.shape.bytes tag verb contents →
     StandsFor new start contents
-    × IsServedBy start contents channels tag verb reply old.past new.past
+    × IsServedBy start contents channels tag verb reply old.past new.past)
 
--- the history of a channel, with so many entries, had no room for so many more, where no look was
--- open; it is as it was
-pub record IsFull (wanted : ℕ) (old new : ChannelState) (entries : ℕ) : Type 0 where
+-- the history of a channel, with so many entries, is as it was
+pub record IsFull (old new : ChannelState) (entries : ℕ) : Type 0 where
   pub entries_are : entries ≡ length old.past
-  pub no_room : length old.looks ≡ 0 → old.limit < entries + wanted
   pub past_stays : new.past ≡ old.past
 
 -- a write, a read or a call found no room in the history
 abbrev pub IsWriteRefused : WorkerState → ChannelState → ChannelState → Tag → Content → ℕ → Type 0
 IsWriteRefused worker old new tag content entries =
-    IsFull 1 old new entries
+    IsFull old new entries × (has_step_room old.limit old.past ≡ false)
     × KeepsWith worker (λ contents. data_of contents tag ≡ content_bytes worker.shape.bytes content)
     old new
 
 abbrev pub IsReadRefused : WorkerState → ChannelState → ChannelState → ℕ → Type 0
 IsReadRefused worker old new entries =
-    IsFull 256 old new entries × KeepsWith worker (λ contents. ⊤) old new
+    IsFull old new entries × (has_look_room old.limit old.past ≡ false)
+    × KeepsWith worker (λ contents. ⊤) old new
 
 abbrev pub IsRefusedOn : WorkerState → ChannelState → ChannelState → Tag → Verb → ℕ → Type 0
 IsRefusedOn worker old new tag verb entries =
-    IsFull (room_wanted verb) old new entries
+    IsFull old new entries × LacksRoom old verb
     × KeepsWith worker (HasOwnData worker.shape.bytes tag verb) old new
 
 -- a step was refused for want of room in a history of this length, if it was

@@ -3,10 +3,10 @@
 -- room there.
 use Rattle.std.specs.Prelude.{ℕ, ◌≡◌, ◌==◌, Bool, true, false, ◌&&◌, not, List, length, map, Ok}
 use Rattle.std.specs.List.{list_all, range_with_len}
-use Rattle.ssd_geo.specs.Fields.{Rest}
-use Rattle.ssd_geo.specs.ImageContents.{blank_channel}
-use Rattle.ssd_geo.specs.ImageHead.{Head, read_head}
-use Rattle.ssd_geo.specs.Input.{Input, read_input}
+use Rattle.ssd_formats.specs.Fields.{Rest}
+use Rattle.ssd_formats.specs.ImageContents.{blank_channel}
+use Rattle.ssd_formats.specs.ImageHead.{Head, read_head}
+use Rattle.ssd_formats.specs.Input.{Input, read_input}
 use Rattle.ssd_geo.specs.declared.trace.Trace.{Trace}
 use Rattle.ssd_geo.specs.declared.trace.TraceCall.{TraceCall}
 use Rattle.ssd_geo.specs.declared.trace.Verb.{Verb}

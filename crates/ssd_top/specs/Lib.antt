@@ -1,6 +1,7 @@
 pub mod Begun
 pub mod ChannelCalls
 pub mod Forms
+pub mod Handed
 pub mod Noiseless
 pub mod Printed
 pub mod RoomForTrace

@@ -6,8 +6,8 @@ use Rattle.run_laws.specs.FirstSenses.{IsNoAgeing, IsReadAtOnce}
 use Rattle.run_laws.specs.ServedPasts.{IsPlainPast}
 use Rattle.ssd_geo.specs.BaseMatrix.{IsAccepted}
 use Rattle.ssd_geo.specs.Coding.{matrix_of}
-use Rattle.ssd_geo.specs.PastRows.{row_of}
-use Rattle.ssd_geo.specs.Start.{Start}
+use Rattle.ssd_histories.specs.PastRows.{row_of}
+use Rattle.ssd_histories.specs.Start.{Start}
 use Rattle.ssd_geo.specs.declared.base.ChannelBase.{ChannelBase}
 use Rattle.ssd_geo.specs.declared.entry.Entry.{Entry}
 use Rattle.ssd_geo.specs.declared.row.Row.{Row}

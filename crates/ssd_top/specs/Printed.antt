@@ -3,8 +3,8 @@
 use Rattle.std.specs.Prelude.{ℕ, ◌≡◌, ◌≤◌, true, length, Option, Some, None, sum_by}
 use Rattle.history_text.specs.Places.{AsLong}
 use Rattle.run_laws.specs.ServedRuns.{hints_in}
-use Rattle.ssd_geo.specs.Numbers.{Text}
-use Rattle.ssd_geo.specs.RunText.{run_text, taken_by}
+use Rattle.ssd_formats.specs.Numbers.{Text}
+use Rattle.ssd_formats.specs.RunText.{run_text, taken_by}
 use Rattle.ssd_top.specs.declared.printed.Printed.{Printed}
 use Rattle.ssd_top.specs.declared.status.Status.{Status}
 

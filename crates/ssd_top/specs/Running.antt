@@ -2,14 +2,20 @@
 -- its end? The channels stand for starts of the input and for the data of its writes, and their
 -- pasts are those of a run whose calls so far were served.
 use Rattle.std.specs.Prelude.{ℕ, ◌≡◌, ◌^◌, ◌/◌, ◌≤◌, ◌<◌, ⊤, true, IsTrue, List, [], ◌∷◌, ◌++◌, All, length, map, replicate, slice_get, Some}
+use Rattle.std.specs.List.{list_all}
 use Rattle.chan_calls.specs.Workers.{WorkerState, WorksFor}
 use Rattle.chan_state.specs.ChannelState.{ChannelState, StandsFor}
-use Rattle.run_laws.specs.Headline.{contents_in}
-use Rattle.run_laws.specs.ServedRuns.{IsServedRun, with_reply}
-use Rattle.run_laws.specs.StoppedRuns.{StopsAt, history_limit}
+use Rattle.run_laws.specs.Headline.{CountsAll}
+use Rattle.run_laws.specs.ServedRuns.{contents_in, IsServedRun, with_reply}
+use Rattle.run_laws.specs.Starts.{starts_of}
+use Rattle.run_laws.specs.StoppedRuns.{StopsAt}
+use Rattle.ssd_top.specs.Handed.{handed_in, history_limit, no_faults}
 use Rattle.run_laws.specs.WrittenRoom.{HasBlankBlocks}
-use Rattle.ssd_geo.specs.Input.{Input}
-use Rattle.ssd_geo.specs.Start.{Start}
+use Rattle.ssd_formats.specs.HistoryText.{is_spelled_entry}
+use Rattle.ssd_formats.specs.ImageHead.{sizes_of}
+use Rattle.ssd_formats.specs.Input.{Input}
+use Rattle.ssd_histories.specs.HistoryRoom.{found_room}
+use Rattle.ssd_histories.specs.Start.{Start}
 use Rattle.ssd_geo.specs.declared.entry.Entry.{Entry}
 use Rattle.ssd_geo.specs.declared.reply.Reply.{Reply}
 use Rattle.ssd_geo.specs.declared.shape.Shape.{Shape}
@@ -21,12 +27,16 @@ use Rattle.ssd_top.specs.RoomForTrace.{fits_drive}
 use Rattle.ssd_top.specs.Workers.{IsContentOf}
 
 -- a channel of a run stands for its start and the data of the input's writes, and the worker works
--- for it
+-- for it; each entry found room and is one that a text spells, there are no more than the limit, and
+-- each of its dies counts no fault
 pub record IsChannelOf (input : Input) (worker : WorkerState) (start : Start)
     (channel : ChannelState) : Type 0 where
   pub works : WorksFor worker start
   pub stands : StandsFor channel start (contents_in input)
-  pub limit_is : channel.limit ≡ history_limit
+  pub has_room : found_room start.limit channel.past ≡ true
+  pub counts : CountsAll (record { start = start; past = channel.past }) (no_faults input.head)
+  pub spelled : list_all is_spelled_entry channel.past ≡ true
+  pub short : length channel.past ≤ start.limit
 
 -- the pasts of channels
 abbrev pub pasts_of : List ChannelState → List (List Entry)
@@ -48,11 +58,17 @@ FitsDrive shape channels verb = ⊤
 pub record IsRunning (input : Input) (worker : WorkerState) (channels : List ChannelState)
     (done : List TraceCall) (replies : List (List Reply)) : Type 0 where
   pub starts : List Start
+  pub starts_are :
+      starts ≡ starts_of worker.shape input.head history_limit input.channels
+      (handed_in input.head input.channels)
+  pub sizes_are : sizes_of worker.shape ≡ input.head.sizes
   pub served : IsServedRun input starts done replies (pasts_of channels)
   pub are_channels :
       (n : ℕ) (start : Start) (channel : ChannelState) → slice_get starts n ≡ Some start →
       slice_get channels n ≡ Some channel → IsChannelOf input worker start channel
   pub few_channels : length channels ≤ 8
+  pub few_actors : input.calls.actors ≤ 32
+  pub few_calls : length input.calls.calls ≤ 2 ^ 20
   pub fits : All (λ call. FitsDrive worker.shape (length channels) call.verb) input.calls.calls
   pub blank : All (λ start. HasBlankBlocks start.base) starts
   pub has_room : fits_drive input ≡ true

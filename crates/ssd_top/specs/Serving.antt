@@ -2,10 +2,10 @@
 -- source that tells its bytes says which input was served, or what was wrong with it; the facts are
 -- those of the bytes that it had.
 use Rattle.std.specs.Prelude.{ℕ, ◌≡◌, ◌-◌, true, List, [], Result, Ok, Err, Option, Some, None, IfSome, map, replicate, ⊤}
-use Rattle.ssd_geo.specs.Input.{Input, read_input}
-use Rattle.ssd_geo.specs.Numbers.{Text}
+use Rattle.ssd_formats.specs.ImageHead.{Head}
+use Rattle.ssd_formats.specs.Input.{Input, read_input}
 use Rattle.ssd_geo.specs.Faults.{Rose}
-use Rattle.ssd_geo.specs.Statuses.{image, trace}
+use Rattle.ssd_formats.specs.Statuses.{image, trace}
 use Rattle.image_file.specs.Gives.{named_fault as image_fault}
 use Rattle.image_file.specs.declared.stop.ImageFault.{ImageFault}
 use Rattle.image_file.specs.declared.stop.ReadStop.{ReadStop}
@@ -15,14 +15,15 @@ use Rattle.trace_text.specs.Answers.{named_fault as trace_fault}
 use Rattle.trace_text.specs.declared.fault.TraceFault.{TraceFault}
 use Rattle.chan_calls.specs.Workers.{WorkerState}
 use Rattle.chan_state.specs.ChannelState.{ChannelState}
-use Rattle.run_laws.specs.Headline.{IsTextOf}
+use Rattle.run_laws.specs.Headline.{Headline, IsStoppedRun, IsWholeRun}
+use Rattle.run_laws.specs.Runs.{Run, text_of_run}
 use Rattle.run_laws.specs.ServedRuns.{hints_in}
-use Rattle.run_laws.specs.StoppedRuns.{IsStopTextOf}
-use Rattle.ssd_geo.specs.SerialHistory.{most_hints}
+use Rattle.ssd_histories.specs.SerialHistory.{most_hints}
 use Rattle.ssd_geo.specs.declared.reply.Reply.{Reply}
 use Rattle.ssd_geo.specs.declared.stop.ServeStop.{ServeStop}
 use Rattle.ssd_geo.specs.declared.trace.Trace.{Trace as TraceOf}
 use Rattle.ssd_top.specs.Forms.{IsUnserved, is_served}
+use Rattle.ssd_top.specs.Handed.{IsRunOf}
 use Rattle.ssd_top.specs.Printed.{IsPrintable, text_of}
 use Rattle.ssd_top.specs.Running.{HasStopped, IsRunning}
 use Rattle.ssd_top.specs.declared.printed.Printed.{Printed}
@@ -33,31 +34,20 @@ use Rattle.ssd_top.specs.declared.status.Status.TheVariants.{Done, Words, Image,
 
 -- an input was read to its end, where the source told its bytes from those, and is one that is
 -- served
-pub record IsServedFrom (before after : Option (List ℕ)) (input : Input) : Type 0 where
-  pub is_input : IfSome before (λ input_bytes. read_input input_bytes ≡ Ok input)
+pub record WasRead (before after : Option (List ℕ)) (asked : Input) : Type 0 where
+  pub is_input : IfSome before (λ input_bytes. read_input input_bytes ≡ Ok asked)
   pub at_end : IfSome before (λ input_bytes. after ≡ Some [])
-  pub is_served : is_served input ≡ true
+  pub is_served : is_served asked ≡ true
 
--- a text is that of a run of an input: of a whole one, or of one that stopped at the limit of this
--- channel's history, with so many entries there
-abbrev pub IsRunText : Input → Option (ℕ × ℕ) → Text → Type 0
-IsRunText input None text = IsTextOf input text
-IsRunText input (Some stop) text = IsStopTextOf input stop.0 stop.1 text
+-- a run came to its end, or stopped at the limit of this channel's history, with so many entries
+-- there
+abbrev pub EndsAt : Head → Run → Option (ℕ × ℕ) → Type 0
+EndsAt head run None = IsWholeRun head run
+EndsAt head run (Some stop) = IsStoppedRun head run stop.0 stop.1
 
--- the text of a run of an input that is served was printed as said
-pub record Serves
-    (before after : Option (List ℕ)) (stop : Option (ℕ × ℕ)) (IsPrinted : Text → Type 0)
-    : Type 0 where
-  pub input : Input
-  pub is_served_from : IsServedFrom before after input
-  pub text : Text
-  pub is_text_of : IsRunText input stop text
-  pub is_printed : IsPrinted text
-
--- so it was, whether the run was whole or stopped
-pub record ServesSome (before after : Option (List ℕ)) (IsPrinted : Text → Type 0) : Type 0 where
-  pub stop : Option (ℕ × ℕ)
-  pub serves : Serves before after stop IsPrinted
+-- a run came to its end, or stopped so at some channel
+abbrev pub Ends : Head → Run → Type 0
+Ends head run = (stop : Option (ℕ × ℕ)) × EndsAt head run stop
 
 -- a status that names a fault names the first of these bytes, and one of what isn't built has its
 -- cause in them
@@ -106,16 +96,20 @@ pub record IsServed (input : Input) (served : Served) : Type 0 where
       served.answered.dropped
       ≡ hints_in (map (λ list. list.items) served.answered.replies.items) - most_hints
 
--- what is to be printed of an input can be, and is of a run of it
-pub record IsOfInput (input : Input) (printed : Printed) : Type 0 where
+-- what is to be printed of an input can be, and is the text of a run of it
+pub record IsOfInput (asked : Input) (printed : Printed) : Type 0 where
   pub printable : IsPrintable printed
-  pub is_text_of : IsRunText input printed.full (text_of printed)
+  pub run : Run
+  pub is_run : IsRunOf asked run
+  pub headline : Headline asked.head run
+  pub ends : EndsAt asked.head run printed.full
+  pub is_text : text_of printed ≡ text_of_run asked.head run
 
 -- an input that is served was read to its end, and this is to be printed of it
 pub record HasServed (before after : Option (List ℕ)) (printed : Printed) : Type 0 where
-  pub input : Input
-  pub is_served_from : IsServedFrom before after input
-  pub of_input : IsOfInput input printed
+  pub asked : Input
+  pub was_read : WasRead before after asked
+  pub of_input : IsOfInput asked printed
 
 -- the status of an image, and of a trace, that wasn't read
 abbrev pub status_of_image : ReadStop ImageFault → Status
@@ -137,12 +131,13 @@ IsNoDie StopVariants.ReadFault = ⊤
 IsNoDie (DieFailed die) = ⊥
 IsNoDie Memory = ⊤
 
--- a status before anything is written: it is one of an input that wasn't served
+-- a status before anything is written: it is one of an input that wasn't served, and the source's
+-- count rose where a read failed, and else is as it was
 abbrev pub IsStop : ℕ → ℕ → Status → Type 0
-IsStop before now (Image at fault) = ⊤
-IsStop before now (Trace line fault) = ⊤
-IsStop before now NotBuilt = ⊤
-IsStop before now OutOfMemory = ⊤
+IsStop before now (Image at fault) = now ≡ before
+IsStop before now (Trace line fault) = now ≡ before
+IsStop before now NotBuilt = now ≡ before
+IsStop before now OutOfMemory = now ≡ before
 IsStop before now ReadFault = Rose before now
 IsStop before now Done = ⊥
 IsStop before now Words = ⊥

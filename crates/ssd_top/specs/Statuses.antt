@@ -1,8 +1,8 @@
 -- What does the program tell its caller of a status? The exit status is a number, and standard
 -- error gets a line of text where it isn't 0.
 use Rattle.std.specs.Prelude.{ℕ, List, codes}
-use Rattle.ssd_geo.specs.Statuses as Statuses
-use Rattle.ssd_geo.specs.Statuses.{done, history_limit, image, out_of_memory, read_fault, trace, words_refused, write_fault}
+use Rattle.ssd_formats.specs.Statuses as Statuses
+use Rattle.ssd_formats.specs.Statuses.{done, history_limit, image, out_of_memory, read_fault, trace, words_refused, write_fault}
 use Rattle.image_file.specs.Gives.{named_fault as image_fault}
 use Rattle.trace_text.specs.Answers.{named_fault as trace_fault}
 use Rattle.ssd_top.specs.declared.status.Status.{Status}

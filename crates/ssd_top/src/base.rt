@@ -1,7 +1,7 @@
 // What a channel of a blank drive begins with.
 ghost use Rattle.std.specs.Prelude.{◌≡◌, ◌<◌, IfOk, replicate};
-ghost use Rattle.ssd_geo.specs.ImageContents.{IsBaseOf, blank_channel, blank_saved, blocks_of, is_factory_bad};
-ghost use Rattle.ssd_geo.specs.ImageHead.{head_of};
+ghost use Rattle.ssd_formats.specs.ImageContents.{IsBaseOf, blank_channel, blank_saved, blocks_of_saved, is_factory_bad};
+ghost use Rattle.ssd_formats.specs.ImageHead.{head_of};
 ghost use Rattle.ssd_geo.specs.Limits.{word_bytes_of};
 ghost use Rattle.ssd_geo.specs.StripeSum.{zero_word};
 ghost use Rattle.ssd_geo.specs.declared.row.Row.TheVariants.{Empty};
@@ -40,7 +40,7 @@ pub fn blank_base(alloc: Global, head: &ImageHead, channel: u8) -> Result<Channe
 
 fn blank_blocks(alloc: Global, head: &ImageHead, channel: u8) -> Result<Items<BlockBase>, Memory>
     ensures { IfOk result
-        (λ blocks. blocks ≡ blocks_of (blank_channel (head_of head.now) channel).blocks) }
+        (λ blocks. blocks ≡ blocks_of_saved (blank_channel (head_of head.now) channel).blocks) }
 {
     let count = head.shape.superblocks;
     let Ok(mut blocks) = Vec::with_capacity(alloc, count as usize) else {

@@ -1,7 +1,7 @@
 // The data bytes of a write.
 ghost use Rattle.std.specs.Prelude.{◌≡◌, ◌≤◌, ◌-◌, ◌++◌, length, replicate};
 ghost use Rattle.ssd_top.specs.Workers.{IsContentOf};
-ghost use Rattle.ssd_geo.specs.TraceText.{content_bytes, generated_bytes};
+ghost use Rattle.ssd_formats.specs.TraceText.{content_bytes, generated_bytes};
 
 use rand_core::{Rng, SeedableRng};
 use rand_xoshiro::SplitMix64;

@@ -1,6 +1,6 @@
 // What serves a drive is made from the head of its image.
 ghost use Rattle.std.specs.Prelude.{◌≡◌, ◌<◌, [], IfOk};
-ghost use Rattle.ssd_geo.specs.ImageHead.{IsHead, head_of, matrix_of};
+ghost use Rattle.ssd_formats.specs.ImageHead.{IsHead, head_of, matrix_of_head};
 ghost use Rattle.ssd_top.specs.Begun.{AreBegun, IsBegun, IsWorkerOf};
 
 use crate::base::{blank_base, copied};
@@ -14,7 +14,7 @@ use std::alloc::Global;
 // The code of the drive.
 fn code_of(alloc: Global, head: &ImageHead) -> Result<Code, Memory>
     requires { IsHead (head_of head.now) }
-    ensures { IfOk result (λ code. code ≡ matrix_of (head_of head.now)) }
+    ensures { IfOk result (λ code. code ≡ matrix_of_head (head_of head.now)) }
 {
     let shape = head.shape;
     match Code::read(alloc, head.entries.as_slice(), shape.mb, shape.nb, shape.z) {

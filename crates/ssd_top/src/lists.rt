@@ -1,7 +1,7 @@
 // The lists of a run as its text takes them.
 ghost use Rattle.std.specs.Prelude.{◌≡◌, IfOk, map};
-ghost use Rattle.ssd_geo.specs.History.{history_of};
-ghost use Rattle.ssd_geo.specs.TraceText.{kind_of_verb, kinds_of_actor, kinds_of_trace};
+ghost use Rattle.ssd_histories.specs.History.{history_of};
+ghost use Rattle.ssd_formats.specs.TraceText.{kind_of_verb, kinds_of_actor, kinds_of_trace};
 
 use chan_state::Channel;
 use ssd_geo::{CallKind, Entry, Items, Memory, Reply, Trace, TraceCall, Verb};

@@ -1,7 +1,7 @@
 // What a run prints.
 ghost use Rattle.std.specs.Prelude.{◌≡◌, OnErr, OnOk};
 ghost use Rattle.std.specs.Io.KnownBytes.{Appends};
-ghost use Rattle.ssd_geo.specs.Faults.{HasCause};
+ghost use Rattle.ssd_io.specs.FaultCounts.{MatchesCount};
 ghost use Rattle.ssd_io.specs.Pieces.{AppendsFront};
 
 use crate::Status;
@@ -32,7 +32,7 @@ impl Printed {
             (Appends (O.written output.old) (O.written output.new) (text_of self.old)) }
         ensures front { OnErr result
             (AppendsFront (O.written output.old) (O.written output.new) (text_of self.old)) }
-        ensures cause { HasCause (O.faults output.old) (O.faults output.new) result }
+        ensures cause { MatchesCount (O.faults output.old) (O.faults output.new) result }
     {
         print_run(
             output,

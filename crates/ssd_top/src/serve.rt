@@ -1,7 +1,7 @@
 // An input, from its bytes to what is printed of it.
-ghost use Rattle.std.specs.Prelude.{◌≡◌, true, IfErr, IfOk};
+ghost use Rattle.std.specs.Prelude.{◌≡◌, true, IfErr, IfOk, OnOk};
 ghost use Rattle.ssd_geo.specs.Faults.{NeverFell};
-ghost use Rattle.ssd_geo.specs.ImageHead.{IsHead, head_of, sizes_of};
+ghost use Rattle.ssd_formats.specs.ImageHead.{IsHead, head_of, sizes_of};
 ghost use Rattle.ssd_top.specs.Forms.{blank_input, is_served};
 ghost use Rattle.ssd_top.specs.Serving.{HasServed, IsCausedByTold, IsNoDie, IsOfInput, IsServed, IsStop};
 ghost use Rattle.ssd_top.specs.Serving.{status_of_image, status_of_trace};
@@ -104,6 +104,7 @@ fn printed_of(
 // Reads an input and serves it.
 pub fn serve_input<S: Source>(alloc: Global, input: &mut S) -> Result<Printed, Status>
     ensures ok { IfOk result (HasServed (S.left input.old) (S.left input.new)) }
+    ensures stays { OnOk result (S.faults input.new ≡ S.faults input.old) }
     ensures stop { IfErr result (IsStop (S.faults input.old) (S.faults input.new)) }
     ensures caused { IfErr result (IsCausedByTold (S.left input.old)) }
     ensures reads { NeverFell (S.faults input.old) (S.faults input.new) }

@@ -2,7 +2,7 @@
 ghost use Rattle.std.specs.Prelude.{◌≡◌, ◌≤◌, ◌<◌, ◌/◌, [], IfOk, IsTrue, OnOk, Some, length, map, replicate};
 ghost use Rattle.chan_calls.specs.Calls.{reply_of};
 ghost use Rattle.run_laws.specs.ServedRuns.{channel_of, with_reply};
-ghost use Rattle.ssd_geo.specs.RunText.{is_hinted};
+ghost use Rattle.ssd_formats.specs.RunText.{is_hinted};
 ghost use Rattle.ssd_top.specs.ChannelCalls.{IfHistoryFull, MayServe, MayUse, MayWrite};
 ghost use Rattle.ssd_top.specs.ChannelCalls.{IsReadRefused, IsRefusedOn, IsWriteRefused};
 ghost use Rattle.ssd_top.specs.ChannelCalls.{IsRowRead, IsRowWritten, IsServedOn};

@@ -1,5 +1,5 @@
 ghost use Rattle.std.specs.Prelude.{◌≡◌, ◌∷◌, [], ◌++◌, codes, decimal, is_ok, if◌then◌else◌, length, take, OnErr, OnOk};
-ghost use Rattle.ssd_geo.specs.InputFaults.{image_fault_word, trace_fault_word};
+ghost use Rattle.ssd_formats.specs.InputFaults.{image_fault_word, trace_fault_word};
 ghost use Rattle.image_file.specs.Gives.{named_fault as image_fault};
 ghost use Rattle.trace_text.specs.Answers.{named_fault as trace_fault};
 ghost use Rattle.ssd_top.specs.Statuses.{status_number, text_of_status};

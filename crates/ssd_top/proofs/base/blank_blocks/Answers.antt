@@ -1,6 +1,6 @@
 use Rattle.std.proofs.Common.{◌≡◌, ◌∙◌, ℕ, map, ap, sym, arith}
 use Rattle.std.specs.List.{range_with_len}
-use Rattle.ssd_geo.specs.ImageHead.{head_of}
+use Rattle.ssd_formats.specs.ImageHead.{head_of}
 use Rattle.ssd_top.proofs.BlankChannels.{blank_block_of, blocks_are, one_more_block}
 use Rattle.ssd_top.proofs.base.blank_blocks.Goals as goal
 

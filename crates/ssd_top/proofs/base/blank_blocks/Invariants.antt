@@ -1,7 +1,7 @@
 use Rattle.std.proofs.Common.{◌≡◌, ◌≤◌, map, vec_len}
 use Rattle.std.specs.List.{range_with_len}
 use Rattle.std.specs.Vec.{vec_capacity}
-use Rattle.ssd_geo.specs.ImageHead.{head_of}
+use Rattle.ssd_formats.specs.ImageHead.{head_of}
 use Rattle.ssd_top.proofs.BlankChannels.{blank_block_of}
 use Rattle.ssd_top.proofs.base.blank_blocks.Given as goal
 

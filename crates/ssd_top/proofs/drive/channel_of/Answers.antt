@@ -1,4 +1,4 @@
-use Rattle.ssd_geo.specs.ImageHead.{head_of}
+use Rattle.ssd_formats.specs.ImageHead.{head_of}
 use Rattle.ssd_top.proofs.BegunChannels.{has_begun, may_begin}
 use Rattle.ssd_top.proofs.drive.channel_of.Goals as goal
 

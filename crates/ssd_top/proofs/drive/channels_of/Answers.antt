@@ -1,6 +1,6 @@
 use Rattle.std.proofs.Common.{List, sym, subst, ◌+◌}
 use Rattle.chan_state.specs.ChannelState.{ChannelState}
-use Rattle.ssd_geo.specs.ImageHead.{head_of}
+use Rattle.ssd_formats.specs.ImageHead.{head_of}
 use Rattle.ssd_top.proofs.BegunChannels.{HaveBegun, one_more_begun}
 use Rattle.ssd_top.proofs.drive.channels_of.Goals as goal
 

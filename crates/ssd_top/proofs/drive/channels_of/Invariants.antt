@@ -1,4 +1,4 @@
-use Rattle.ssd_geo.specs.ImageHead.{head_of}
+use Rattle.ssd_formats.specs.ImageHead.{head_of}
 use Rattle.ssd_top.proofs.BegunChannels.{HaveBegun}
 use Rattle.ssd_top.proofs.drive.channels_of.Given as goal
 

@@ -1,5 +1,5 @@
 -- The base matrix of a head has no fault.
-use Rattle.ssd_geo.specs.ImageHead.{head_of}
+use Rattle.ssd_formats.specs.ImageHead.{head_of}
 use Rattle.ssd_top.proofs.DriveCodes.{no_diagonal}
 use Rattle.ssd_top.proofs.drive.code_of.Goals as goal
 

@@ -1,6 +1,6 @@
 use Rattle.std.proofs.Common.{◌∙◌, List, ℤ, ap}
 use Rattle.std.specs.List.{list_all}
-use Rattle.ssd_geo.specs.Standing.{is_level}
+use Rattle.ssd_geo.specs.Limits.{is_level}
 use Rattle.ssd_top.proofs.drive.worker_of.Goals as goal
 
 pub new-requires-clause-levels : goal.new-requires-clause-levels

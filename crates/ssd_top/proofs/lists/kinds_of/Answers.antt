@@ -1,7 +1,7 @@
 use Rattle.std.proofs.Common.{ℕ, ◌≡◌, ◌+◌, List, [], ◌∷◌, ◌++◌, map, ap, arith, sym, ◌∙◌}
 use Rattle.std.specs.List.{range_with_len}
 use Rattle.std.proofs.lemmas.List.FromFn.{map-range_with_len_more}
-use Rattle.ssd_geo.specs.TraceText.{kinds_of_actor}
+use Rattle.ssd_formats.specs.TraceText.{kinds_of_actor}
 use Rattle.ssd_geo.specs.declared.reply.CallKind.{CallKind}
 use Rattle.ssd_geo.specs.declared.trace.TraceCall.{TraceCall}
 use Rattle.ssd_top.proofs.lists.kinds_of.Goals as goal

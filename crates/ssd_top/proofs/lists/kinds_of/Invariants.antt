@@ -1,6 +1,6 @@
 use Rattle.std.proofs.Common.{◌≡◌, map}
 use Rattle.std.specs.List.{range_with_len}
-use Rattle.ssd_geo.specs.TraceText.{kinds_of_actor}
+use Rattle.ssd_formats.specs.TraceText.{kinds_of_actor}
 use Rattle.ssd_top.proofs.lists.kinds_of.Given as goal
 
 -- the lists so far are those of the actors so far

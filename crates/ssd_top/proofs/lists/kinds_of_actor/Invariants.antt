@@ -1,5 +1,5 @@
 use Rattle.std.proofs.Common.{◌≡◌, take}
-use Rattle.ssd_geo.specs.TraceText.{kinds_of_actor}
+use Rattle.ssd_formats.specs.TraceText.{kinds_of_actor}
 use Rattle.ssd_top.proofs.lists.kinds_of_actor.Given as goal
 
 -- the kinds so far are those of the calls so far

@@ -2,7 +2,7 @@ use Rattle.std.proofs.Common.{rules, tests, ◌≡◌, ℕ, refl, arith}
 use Rattle.std.specs.List.{list_all, range_with_len}
 use Rattle.std.proofs.lemmas.Iterator.{YieldsList-from_range}
 use Rattle.std.proofs.lemmas.Iterator.Search.{all_from_yields_List}
-use Rattle.ssd_geo.specs.ImageHead.{Head, head_of}
+use Rattle.ssd_formats.specs.ImageHead.{Head, head_of}
 use Rattle.ssd_top.specs.RoomForTrace.{fits_blank}
 use Rattle.ssd_top.proofs.FittingPages.{fits_all}
 use Rattle.ssd_top.proofs.room.has_room.Goals as goal

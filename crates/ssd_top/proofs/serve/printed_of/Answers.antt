@@ -1,5 +1,5 @@
 use Rattle.std.proofs.Common.{map, refl}
-use Rattle.ssd_geo.specs.ImageHead.{head_of}
+use Rattle.ssd_formats.specs.ImageHead.{head_of}
 use Rattle.ssd_top.proofs.RunsOfInputs.{few_levels, histories_are, is_of_input}
 use Rattle.ssd_top.specs.Forms.{blank_input}
 use Rattle.ssd_top.proofs.serve.printed_of.Goals as goal

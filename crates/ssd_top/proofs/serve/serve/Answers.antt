@@ -1,7 +1,7 @@
 use Rattle.std.proofs.Common.{List, map, refl, subst, arith}
 use Rattle.chan_state.specs.ChannelState.{ChannelState}
-use Rattle.ssd_geo.specs.ImageHead.{head_of}
-use Rattle.ssd_geo.specs.Input.{Input}
+use Rattle.ssd_formats.specs.ImageHead.{head_of}
+use Rattle.ssd_formats.specs.Input.{Input}
 use Rattle.ssd_top.proofs.BegunDrives.{none_weak}
 use Rattle.ssd_top.proofs.BegunRuns.{run_begins, written_channels}
 use Rattle.ssd_top.specs.Forms.{blank_input}

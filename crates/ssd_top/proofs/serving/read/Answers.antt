@@ -40,5 +40,6 @@ returns-in-Ok-reply_of-clause-ok c =
     (row_read c.args.worker.now c.new-steps.result.channel.now c.read.new.steps.channel.now
     c.new-steps.result.channel.ghost_name c.read.new.steps.channel.ghost_name c.args.tag
     c.new-steps.result.looks_are
-    c.args.row c.reads_alone_are_served.ensures (reply_of c.in-Ok.answer c.read.new.self.data_bytes)
+    c.args.row c.reads_alone_are_served.ensures c.in-Ok.answer
+    (reply_of c.in-Ok.answer c.read.new.self.data_bytes) c.in-Ok.ensures.room
     c.in-Ok.ensures.goes_on c.in-Ok.ensures.ok))

@@ -2,12 +2,12 @@ use Rattle.std.proofs.Common.{◌≡◌, ◌<◌, ◌+◌, ◌-◌, ◌∙◌, G
 use Rattle.std.specs.Prelude.{ℕ}
 use Rattle.std.proofs.lemmas.List.{length-map}
 use Rattle.ssd_geo.specs.declared.reply.Reply.{Reply}
-use Rattle.ssd_geo.specs.SerialHistory.{most_hints}
+use Rattle.ssd_histories.specs.SerialHistory.{most_hints}
 use Rattle.run_laws.specs.ServedRuns.{hints_in}
 use Rattle.run_laws.proofs.ServedOrder.{hints_with_more}
 use Rattle.ssd_top.specs.Running.{HasStopped, RunsTo}
 use Rattle.ssd_top.specs.Workers.{settings}
-use Rattle.ssd_top.proofs.TraceRuns.{actor_is_low, as_long, hint_counted, is_next, one_at_most, one_more_call, runs_stop}
+use Rattle.ssd_top.proofs.TraceRuns.{actor_is_low, as_long, hint_counted, is_next, one_at_most, one_more_call, runs_stop, runs_whole}
 use Rattle.ssd_top.proofs.serving.serve_trace.Goals as goal
 
 -- the lists of replies
@@ -48,6 +48,17 @@ returns-in-Err-HistoryFull-clause-ok c input is_trace began =
           c.serve_call.new.channels c.in-Err-HistoryFull.channel c.in-Err-HistoryFull.length
           told input is_trace began),
       c.saturating_sub.ensures ∙ ap (λ (hints : ℕ). hints - most_hints) so_far.hints_are,
+    )
+
+-- after the last call the run is whole
+pub returns-clause-ok : goal.returns-clause-ok
+returns-clause-ok c input is_trace began =
+    let so_far = c.loop-call.invariant in (
+      runs_whole (settings c.args.worker.now) c.args.channels.now c.args.trace.now
+          c.loop-call.channels (lists_of c.loop-call.replies.items) c.loop-call.call-index
+          c.as_slice-call-items.result.now so_far.items c.loop-call-test.false so_far.runs
+          input is_trace began,
+      c.saturating_sub-2.ensures ∙ ap (λ (hints : ℕ). hints - most_hints) so_far.hints_are,
     )
 
 -- there is a list for the call's actor

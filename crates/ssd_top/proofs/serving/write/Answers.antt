@@ -1,6 +1,6 @@
 use Rattle.std.proofs.Common.{ap, ◌∙◌, Err, rules}
 use Rattle.std.specs.Prelude.{ℕ}
-use Rattle.ssd_geo.specs.TraceText.{content_bytes}
+use Rattle.ssd_formats.specs.TraceText.{content_bytes}
 use Rattle.ssd_geo.specs.declared.reply.Reply.{Reply}
 use Rattle.ssd_top.specs.ChannelCalls.{IfHistoryFull, IsWriteRefused, IsRowWritten}
 use Rattle.ssd_top.specs.Workers.{settings}

@@ -1,16 +1,22 @@
-use Rattle.std.proofs.Common.{None, Some, sym, ◌∙◌}
+use Rattle.std.proofs.Common.{sym, ◌∙◌}
 use Rattle.std.specs.Io.KnownBytes.{Appends}
-use Rattle.ssd_top.proofs.PrintedRuns.{has_stopped, serves, was_whole}
+use Rattle.ssd_io.specs.Pieces.{AppendsFront}
+use Rattle.ssd_top.proofs.PrintedRuns.{has_stopped, serves_some, serves_stopped, serves_whole, was_whole}
 use Rattle.ssd_top.proofs.top.run.Goals as goal
 
 pub returns-in-Ok-print-clause-headline : goal.returns-in-Ok-print-clause-headline
 returns-in-Ok-print-clause-headline g c =
-    λ is_done. serves (g.S.Source.left c.args.input.now) (g.S.Source.left c.serve_input.new.input) c.in-Ok.printed None
-    (Appends (g.O.Sink.written c.args.output.now) (g.O.Sink.written c.print.new.output)) c.in-Ok.ensures.ok
-    (was_whole c.in-Ok.printed.full (sym c.status-status.ensures ∙ is_done)) c.in-Ok-print.ensures.all
+    λ is_done. serves_whole (g.S.Source.left c.args.input.now) (g.S.Source.left c.serve_input.new.input) c.in-Ok.printed c.in-Ok.ensures.ok
+    (Appends (g.O.Sink.written c.args.output.now) (g.O.Sink.written c.print.new.output)) c.in-Ok-print.ensures.all
+    (was_whole c.in-Ok.printed.full (sym c.status-status.ensures ∙ is_done))
 
 pub returns-in-Ok-print-clause-headline_at_limit : goal.returns-in-Ok-print-clause-headline_at_limit
 returns-in-Ok-print-clause-headline_at_limit g c =
-    λ channel entries is_limit. serves (g.S.Source.left c.args.input.now) (g.S.Source.left c.serve_input.new.input) c.in-Ok.printed
-    (Some (channel, entries)) (Appends (g.O.Sink.written c.args.output.now) (g.O.Sink.written c.print.new.output)) c.in-Ok.ensures.ok
-    (has_stopped c.in-Ok.printed.full channel entries (sym c.status-status.ensures ∙ is_limit)) c.in-Ok-print.ensures.all
+    λ channel entries is_limit. serves_stopped (g.S.Source.left c.args.input.now) (g.S.Source.left c.serve_input.new.input) c.in-Ok.printed c.in-Ok.ensures.ok
+    (Appends (g.O.Sink.written c.args.output.now) (g.O.Sink.written c.print.new.output)) c.in-Ok-print.ensures.all channel entries
+    (has_stopped c.in-Ok.printed.full channel entries (sym c.status-status.ensures ∙ is_limit))
+
+pub returns-in-Ok-clause-headline_front : goal.returns-in-Ok-clause-headline_front
+returns-in-Ok-clause-headline_front g c =
+    λ has_failed. serves_some (g.S.Source.left c.args.input.now) (g.S.Source.left c.serve_input.new.input) c.in-Ok.printed c.in-Ok.ensures.ok
+    (AppendsFront (g.O.Sink.written c.args.output.now) (g.O.Sink.written c.print.new.output)) c.in-Err-print.ensures.front

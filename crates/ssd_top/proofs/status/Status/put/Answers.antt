@@ -1,5 +1,5 @@
 use Rattle.std.proofs.Common.{ℕ, ◌≡◌, ◌++◌, List, OnOk, codes, decimal, subst, ap, ◌∙◌}
-use Rattle.ssd_geo.specs.InputFaults.{image_fault_word, trace_fault_word}
+use Rattle.ssd_formats.specs.InputFaults.{image_fault_word, trace_fault_word}
 use Rattle.image_file.specs.Gives.{named_fault as image_fault}
 use Rattle.trace_text.specs.Answers.{named_fault as trace_fault}
 use Rattle.ssd_top.proofs.FaultTexts.{fault_line, limit_line}
