@@ -1,0 +1,1 @@
+"""Images of drives: made from a description, read back, and shown."""

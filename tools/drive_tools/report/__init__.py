@@ -1,0 +1,1 @@
+"""What a run printed, read as a stream and counted."""

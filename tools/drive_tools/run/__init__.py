@@ -1,0 +1,1 @@
+"""Runs of `ssd`, followed from outside."""

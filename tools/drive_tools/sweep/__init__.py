@@ -1,0 +1,1 @@
+"""Many configurations run side by side."""

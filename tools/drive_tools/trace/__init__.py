@@ -1,0 +1,1 @@
+"""Traces: from the logs of real workloads, and made by chance."""

@@ -1,0 +1,1 @@
+"""One page in HTML that shows a run."""
