@@ -4,7 +4,7 @@ use Rattle.std.specs.List.{list_all}
 use Rattle.std.proofs.lemmas.Bool.{and_from, cases_eq, le-leb, leb-true, lt-leb, ltb-false, ltb-true}
 use Rattle.std.proofs.lemmas.List.Folds.{list_all_at}
 use Rattle.std.proofs.lemmas.List.Sums.{position_or_len_is}
-use Rattle.ssd_geo.specs.Blocks.{blank_block, block_at, count_of_free, freshest_of, frontier_of, has_any_room, is_free_block, is_freshest, is_no_fresher}
+use Rattle.ssd_histories.specs.Blocks.{blank_block, block_at, free_blocks_in, freshest_of, frontier_of, has_any_room, is_free_block, is_freshest, is_no_fresher}
 use Rattle.ssd_geo.specs.declared.base.BlockBase.{BlockBase}
 use Rattle.allocator.proofs.Places.{all_from, none_counted, not_placed, placed}
 use Rattle.allocator.specs.Superblocks.{beats, best_with}
@@ -134,18 +134,18 @@ best_is_among blocks (suc i) =
     let e : i + 1 ≡ suc i = omega arith in
     rw e at (best_more blocks i (best_among blocks i) (best_is_among blocks i))
 
-exists_by : (blocks : List BlockBase) (best : Option ℕ) → IsBest blocks (length blocks) best → 1 ≤ count_of_free blocks
+exists_by : (blocks : List BlockBase) (best : Option ℕ) → IsBest blocks (length blocks) best → 1 ≤ free_blocks_in blocks
     → is_some (freshest_of blocks) ≡ true
 exists_by blocks None h some = absurd (omega (arith, none_counted is_free_block blocks blank_block h))
 exists_by blocks (Some b) h some = rw (freshest_is blocks (Some b) h) refl
 
-any_by : (blocks : List BlockBase) (frontier : Option ℕ) → frontier_of blocks ≡ frontier → 1 ≤ count_of_free blocks
+any_by : (blocks : List BlockBase) (frontier : Option ℕ) → frontier_of blocks ≡ frontier → 1 ≤ free_blocks_in blocks
     → has_any_room blocks ≡ true
 any_by blocks (Some f) is_f some = rw is_f refl
 any_by blocks None is_f some =
     rw is_f (exists_by blocks (best_among blocks (length blocks)) (best_is_among blocks (length blocks)) some)
 
 -- where two superblocks are free there is a next slot
-pub any_room_of_two : (blocks : List BlockBase) (free : ℕ) → free ≡ count_of_free blocks → nat_le 2 free ≡ true
+pub any_room_of_two : (blocks : List BlockBase) (free : ℕ) → free ≡ free_blocks_in blocks → nat_le 2 free ≡ true
     → has_any_room blocks ≡ true
 any_room_of_two blocks free is_free two = any_by blocks (frontier_of blocks) refl (omega (arith, is_free, leb-true 2 free two))

@@ -2,7 +2,7 @@
 use Rattle.std.proofs.Common.{◌≡◌, ℕ, ◌+◌, ◌<◌, ◌≤◌, List, length, set, Option, arith, IsTrue}
 use Rattle.std.proofs.lemmas.List.{length-set}
 use Rattle.std.proofs.lemmas.List.Sums.{count_by-le-length, sum_by_more_le}
-use Rattle.ssd_geo.specs.Blocks.{blank_block, block_at, frontier_of, is_due_block, is_free_block, is_frontier_block, is_victim_block, victim_of}
+use Rattle.ssd_histories.specs.Blocks.{blank_block, block_at, frontier_of, is_due_block, is_free_block, is_frontier_block, is_victim_block, victim_in}
 use Rattle.ssd_geo.specs.declared.base.BlockBase.{BlockBase}
 use Rattle.allocator.proofs.Places.{all-set, count_by-set, IsOnly, only-set}
 use Rattle.allocator.specs.Superblocks.{AreKept, MayBeOne, one_if, place_after}
@@ -10,7 +10,7 @@ use Rattle.allocator.specs.Superblocks.{AreKept, MayBeOne, one_if, place_after}
 pub kept-set : (slots : ℕ) (blocks : List BlockBase) (sb : ℕ) (block : BlockBase) (frontier victim : Option ℕ) (free free' : ℕ)
     → AreKept slots blocks frontier victim free → sb < length blocks → IsTrue (is_due_block slots block)
     → MayBeOne (is_frontier_block block) (is_frontier_block (block_at blocks sb)) (frontier_of blocks)
-    → MayBeOne (is_victim_block block) (is_victim_block (block_at blocks sb)) (victim_of blocks)
+    → MayBeOne (is_victim_block block) (is_victim_block (block_at blocks sb)) (victim_in blocks)
     → free' + one_if (is_free_block (block_at blocks sb)) ≡ free + one_if (is_free_block block)
     → AreKept slots (set blocks sb block)
     (place_after (is_frontier_block (block_at blocks sb)) (is_frontier_block block) sb frontier)

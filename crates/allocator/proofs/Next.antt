@@ -3,8 +3,8 @@ use Rattle.std.proofs.Common.{◌≡◌, ℕ, ◌<◌, ◌≤◌, List, length, 
 use Rattle.std.specs.List.{list_all}
 use Rattle.std.proofs.lemmas.Bool.{and_parts, eqb-true, ltb-true}
 use Rattle.std.proofs.lemmas.List.Quantifiers.{position-Some}
-use Rattle.ssd_geo.specs.Blocks.{AreSound, blank_block, block_at, freshest_of, frontier_of, has_due_used, is_due_block, is_free_block, is_freshest, is_frontier_block, is_no_fresher}
-use Rattle.ssd_geo.specs.States.{is_free, is_frontier}
+use Rattle.ssd_histories.specs.Blocks.{AreSound, blank_block, block_at, freshest_of, frontier_of, has_due_used, is_due_block, is_free_block, is_freshest, is_frontier_block, is_no_fresher}
+use Rattle.ssd_histories.specs.States.{is_free, is_frontier}
 use Rattle.ssd_geo.specs.declared.base.BlockBase.{BlockBase}
 use Rattle.ssd_geo.specs.declared.superblock.SbState.{SbState}
 use Rattle.ssd_geo.specs.declared.superblock.SbState.TheVariants.{Free, Frontier, Sealed, Bad, Victim}

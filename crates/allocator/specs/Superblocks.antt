@@ -1,7 +1,7 @@
 -- What does the table of a channel's superblocks hold, and what is kept beside it? The frontier, the victim and the
 -- number of free superblocks are kept, so that no scan is needed for them.
 use Rattle.std.specs.Prelude.{ℕ, ◌≡◌, nat_lt, cond, ◌&&◌, Bool, true, false, List, Option, Some, None}
-use Rattle.ssd_geo.specs.Blocks.{AreSound, block_at, count_of_free, frontier_of, is_free_block, victim_of}
+use Rattle.ssd_histories.specs.Blocks.{AreSound, block_at, free_blocks_in, frontier_of, is_free_block, victim_in}
 use Rattle.ssd_geo.specs.declared.base.BlockBase.{BlockBase}
 
 -- the superblocks of a channel, and how many data slots each has
@@ -13,8 +13,8 @@ pub record Superblocks : Type 0 where
 pub record AreKept (slots : ℕ) (blocks : List BlockBase) (frontier victim : Option ℕ) (free : ℕ) : Type 0 where
   pub sound : AreSound slots blocks
   pub frontier_is : frontier ≡ frontier_of blocks
-  pub victim_is : victim ≡ victim_of blocks
-  pub free_is : free ≡ count_of_free blocks
+  pub victim_is : victim ≡ victim_in blocks
+  pub free_is : free ≡ free_blocks_in blocks
 
 -- whether an erase count is less than that of the best superblock so far, if there is one
 abbrev pub beats : List BlockBase → ℕ → Option ℕ → Bool

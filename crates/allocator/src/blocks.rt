@@ -1,7 +1,7 @@
 ghost use Rattle.std.specs.Prelude.{◌≡◌, ◌<◌, ◌-◌, ◌^◌, ◌↔◌, IfSome, IsSome, IsTrue, None, Some, length, slice_set, true};
 ghost use Rattle.allocator.specs.Superblocks.{MayBeOne};
-ghost use Rattle.ssd_geo.specs.Blocks.{AreSound, block_at, count_of_free, frontier_of, is_due_block, is_frontier_block, is_victim_block, has_any_room, has_host_room, is_worn, left_in, next_slot_of, next_superblock, slots_left, victim_of, with_erased, with_next_used, with_retired, with_victim};
-ghost use Rattle.ssd_geo.specs.States.{is_sealed};
+ghost use Rattle.ssd_histories.specs.Blocks.{AreSound, block_at, free_blocks_in, frontier_of, is_due_block, is_frontier_block, is_victim_block, has_any_room, blocks_have_room, are_blocks_worn, left_in, next_slot_of, next_superblock, slots_left, victim_in, with_erased, with_next_used, with_retired, with_victim};
+ghost use Rattle.ssd_histories.specs.States.{is_sealed};
 
 use crate::room::{free_in, freshest, frontier_in, victim_in};
 use crate::states::{
@@ -53,7 +53,7 @@ impl Blocks {
     /// Whether the host may write: there are a frontier and a free superblock, or two free superblocks. Then there is
     /// a next slot, and a superblock stays free for copies.
     pub fn host_room(&self) -> bool
-        ensures value { result ≡ has_host_room self.now.blocks }
+        ensures value { result ≡ blocks_have_room self.now.blocks }
         ensures any_room { IsTrue result → IsTrue (has_any_room self.now.blocks) }
     {
         self.frontier.is_some() && self.free >= 1 || self.free >= 2
@@ -69,7 +69,7 @@ impl Blocks {
     /// Whether no collection can make room, where the victim has so many live pages: no superblock is free, and there
     /// is no victim, or the frontier has fewer slots left.
     pub fn worn(&self, victim_live: u32) -> bool
-        ensures { result ≡ is_worn self.now.slots self.now.blocks victim_live }
+        ensures { result ≡ are_blocks_worn self.now.slots self.now.blocks victim_live }
     {
         self.free == 0 && (self.victim.is_none() || self.left() < victim_live)
     }
@@ -119,7 +119,7 @@ impl Blocks {
     pub fn mark_victim(&mut self, sb: u16)
         requires in_range { sb < length self.old.blocks }
         requires sealed { IsTrue (is_sealed (block_at self.old.blocks sb).state) }
-        requires no_victim { victim_of self.old.blocks ≡ None }
+        requires no_victim { victim_in self.old.blocks ≡ None }
         ensures { self.new ≡ record self.old { blocks = with_victim self.old.blocks sb } }
     {
         let block = self.blocks[sb as usize];
@@ -128,9 +128,9 @@ impl Blocks {
 
     /// Frees the victim, which was erased once more, and answers it.
     pub fn erased(&mut self) -> u16
-        requires victim { IsSome (victim_of self.old.blocks) }
-        requires few_erases { IfSome (victim_of self.old.blocks) (λ sb. (block_at self.old.blocks sb).erases < 2 ^ 32 - 1) }
-        ensures victim { victim_of self.old.blocks ≡ Some result }
+        requires victim { IsSome (victim_in self.old.blocks) }
+        requires few_erases { IfSome (victim_in self.old.blocks) (λ sb. (block_at self.old.blocks sb).erases < 2 ^ 32 - 1) }
+        ensures victim { victim_in self.old.blocks ≡ Some result }
         ensures after { self.new ≡ record self.old { blocks = with_erased self.old.blocks result } }
     {
         let sb = self.victim.unwrap();
@@ -150,7 +150,7 @@ impl Blocks {
 
     /// The victim.
     pub fn victim(&self) -> Option<u16>
-        ensures value { result ≡ victim_of self.now.blocks }
+        ensures value { result ≡ victim_in self.now.blocks }
         ensures in_range { IfSome result (λ sb. sb < length self.now.blocks) }
     {
         self.victim
@@ -158,7 +158,7 @@ impl Blocks {
 
     /// How many superblocks are free.
     pub fn free_count(&self) -> u16
-        ensures { result ≡ count_of_free self.now.blocks }
+        ensures { result ≡ free_blocks_in self.now.blocks }
     {
         self.free
     }
@@ -170,7 +170,7 @@ impl Blocks {
         requires one_frontier { MayBeOne (is_frontier_block next) (is_frontier_block (block_at self.old.blocks sb))
             (frontier_of self.old.blocks) }
         requires one_victim { MayBeOne (is_victim_block next) (is_victim_block (block_at self.old.blocks sb))
-            (victim_of self.old.blocks) }
+            (victim_in self.old.blocks) }
         ensures { self.new ≡ record self.old { blocks = slice_set self.old.blocks sb next } }
     {
         let block = self.blocks[sb as usize];

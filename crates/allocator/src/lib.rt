@@ -7,6 +7,3 @@ mod room;
 mod states;
 
 pub use blocks::Blocks;
-
-#[cfg(test)]
-mod tests;

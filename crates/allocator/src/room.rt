@@ -1,6 +1,6 @@
 ghost use Rattle.std.specs.Prelude.{◌≡◌, ◌-◌, ◌<◌, ◌≤◌, ◌^◌, IfSome, length};
 ghost use Rattle.allocator.specs.Superblocks.{beats, best_with};
-ghost use Rattle.ssd_geo.specs.Blocks.{count_of_free, freshest_of, frontier_of, victim_of};
+ghost use Rattle.ssd_histories.specs.Blocks.{free_blocks_in, freshest_of, frontier_of, victim_in};
 
 use crate::states::{is_free, is_frontier, is_victim};
 use ssd_geo::BlockBase;
@@ -16,7 +16,7 @@ pub(crate) fn frontier_in(blocks: &[BlockBase]) -> Option<u16>
 // The victim of the superblocks.
 pub(crate) fn victim_in(blocks: &[BlockBase]) -> Option<u16>
     requires { length blocks.now ≤ 256 }
-    ensures { result ≡ victim_of blocks.now }
+    ensures { result ≡ victim_in blocks.now }
 {
     narrowed(victim_place(blocks))
 }
@@ -24,7 +24,7 @@ pub(crate) fn victim_in(blocks: &[BlockBase]) -> Option<u16>
 // How many superblocks are free.
 pub(crate) fn free_in(blocks: &[BlockBase]) -> u16
     requires { length blocks.now ≤ 256 }
-    ensures { result ≡ count_of_free blocks.now }
+    ensures { result ≡ free_blocks_in blocks.now }
 {
     blocks.iter().filter(|block| is_free(block)).count() as u16
 }
@@ -51,7 +51,7 @@ fn frontier_place(blocks: &[BlockBase]) -> Option<usize>
 
 // Where the victim stands.
 fn victim_place(blocks: &[BlockBase]) -> Option<usize>
-    ensures value { result ≡ victim_of blocks.now }
+    ensures value { result ≡ victim_in blocks.now }
     ensures bound { IfSome result (λ sb. sb < length blocks.now) }
 {
     blocks.iter().position(|block| is_victim(block))

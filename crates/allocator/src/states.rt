@@ -1,6 +1,6 @@
 ghost use Rattle.std.specs.Prelude.{◌≡◌, ◌+◌, ◌-◌, ◌<◌, ◌≤◌, ◌^◌};
 ghost use Rattle.allocator.specs.Superblocks.{one_if, place_after};
-ghost use Rattle.ssd_geo.specs.Blocks.{erased_block, is_free_block, is_frontier_block, is_victim_block, retired_block, victim_block, with_slot_used};
+ghost use Rattle.ssd_histories.specs.Blocks.{erased_block, is_free_block, is_frontier_block, is_victim_block, retired_block, victim_block, with_slot_used};
 
 use ssd_geo::{BlockBase, SbState};
 

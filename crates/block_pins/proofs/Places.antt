@@ -3,7 +3,7 @@ use Rattle.std.proofs.Common.{◌≡◌, ℕ, zero, suc, ◌<◌, List, [], ◌�
 use Rattle.std.specs.List.{position, remove}
 use Rattle.std.proofs.lemmas.List.Quantifiers.{position-Some}
 use Rattle.std.proofs.lemmas.List.Sums.{fails_before_first}
-use Rattle.ssd_geo.specs.OpenLooks.{began_at, look_at, without_look}
+use Rattle.ssd_histories.specs.OpenLooks.{began_at, look_at, without_look}
 use Rattle.ssd_geo.specs.declared.look.Look.{Look}
 use Rattle.ssd_geo.specs.declared.tag.Tag.{Tag}
 

@@ -5,6 +5,3 @@
 mod pins;
 
 pub use pins::Pins;
-
-#[cfg(test)]
-mod tests;

@@ -1,5 +1,5 @@
 ghost use Rattle.std.specs.Prelude.{◌≡◌, [], ◌∷◌, ◌++◌, IfOk, if◌then◌else◌, is_ok, length, position};
-ghost use Rattle.ssd_geo.specs.OpenLooks.{began_at, look_at, looks_in, without_look};
+ghost use Rattle.ssd_histories.specs.OpenLooks.{began_at, look_at, looks_in, without_look};
 
 use ssd_geo::{Look, Memory, Tag};
 use std::alloc::Global;

@@ -6,16 +6,16 @@ use Rattle.std.proofs.lemmas.List.FromFn.{get_or-map-range_with_len}
 use Rattle.ssd_geo.specs.Bits.{bytes_sum}
 use Rattle.ssd_geo.specs.Cells.{aged_level}
 use Rattle.ssd_geo.specs.Coding.{coding_of}
-use Rattle.ssd_geo.specs.PastPages.{PageChange, StoredPage, programs, programs_parity, empties, ages, leaves, aged_page, change_when, fresh_page, levels_in, levels_of, page_of, sum_of}
-use Rattle.ssd_geo.specs.Ranges.{has_place}
-use Rattle.ssd_geo.specs.Start.{Start}
+use Rattle.ssd_histories.specs.PastPages.{PageChange, StoredPage, programs, programs_parity, empties, ages, leaves, aged_page, change_when, fresh_page, levels_in, levels_of, page_of, sum_of}
+use Rattle.ssd_histories.specs.Ranges.{has_place}
+use Rattle.ssd_histories.specs.Start.{Start}
 use Rattle.ssd_geo.specs.Stripe.{stripe_of_index}
 use Rattle.ssd_geo.specs.declared.base.ChannelBase.{ChannelBase}
 use Rattle.ssd_geo.specs.declared.entry.Entry.{Entry}
 use Rattle.ssd_geo.specs.declared.kind.Kind.{Kind}
 use Rattle.ssd_geo.specs.declared.place.Place.{Place}
 use Rattle.ssd_geo.specs.declared.tag.Tag.{Tag}
-use Rattle.ssd_geo.proofs.UsedSlots.{made}
+use Rattle.ssd_histories.proofs.UsedSlots.{made}
 use Rattle.chan_state.specs.CellsState.{CellsFit, CellsState, cells_after_age, page_after_age, pages_after_age}
 use Rattle.chan_state.specs.ChannelState.{page_number}
 use Rattle.chan_state.proofs.PageNumbers.{number_in_block, page_number-lt}

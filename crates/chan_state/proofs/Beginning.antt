@@ -6,13 +6,13 @@ use Rattle.std.proofs.lemmas.Bool.{cases_lt, ltb-true}
 use Rattle.std.proofs.lemmas.Bool.Decides.{nat_tests}
 use Rattle.std.proofs.lemmas.List.{ext_get_or, get_or_past}
 use Rattle.std.proofs.lemmas.List.FromFn.{get_or-map-range_with_len, length-map-range_with_len}
-use Rattle.ssd_geo.specs.Blocks.{blank_block, block_at}
+use Rattle.ssd_histories.specs.Blocks.{blank_block, block_at}
 use Rattle.ssd_geo.specs.Cells.{IsCellLaw}
-use Rattle.ssd_geo.specs.PageMap.{row_at}
-use Rattle.ssd_geo.specs.PastBlocks.{block_of, blocks_of}
-use Rattle.ssd_geo.specs.PastRows.{row_of, rows_of}
-use Rattle.ssd_geo.specs.Standing.{HasFields, IsStart, names_used}
-use Rattle.ssd_geo.specs.Start.{Start}
+use Rattle.ssd_histories.specs.PageMap.{row_at}
+use Rattle.ssd_histories.specs.PastBlocks.{block_of, blocks_of}
+use Rattle.ssd_histories.specs.PastRows.{row_of, rows_of}
+use Rattle.ssd_histories.specs.Standing.{HasFields, IsStart, names_used}
+use Rattle.ssd_histories.specs.Start.{Start}
 use Rattle.ssd_geo.specs.declared.base.BlockBase.{BlockBase}
 use Rattle.ssd_geo.specs.declared.base.ChannelBase.{ChannelBase}
 use Rattle.ssd_geo.specs.declared.row.Row.{Row}

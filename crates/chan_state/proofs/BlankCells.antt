@@ -5,14 +5,14 @@ use Rattle.std.specs.List.{list_any}
 use Rattle.std.proofs.lemmas.Bool.Decides.{nat_tests}
 use Rattle.std.proofs.lemmas.List.{get_or-replicate, length-replicate}
 use Rattle.std.proofs.lemmas.Option.{slice_get_past}
-use Rattle.ssd_geo.specs.Blocks as Blocks
+use Rattle.ssd_histories.specs.Blocks as Blocks
 use Rattle.ssd_geo.specs.Coding.{coding_of, word_bytes_in}
-use Rattle.ssd_geo.specs.PastBlocks.{block_before, blocks_of, state_of}
-use Rattle.ssd_geo.specs.PastPages.{levels_in, running_sum, stored_in_image, sum_in_image, sum_of_open}
-use Rattle.ssd_geo.specs.Ranges.{has_place}
-use Rattle.ssd_geo.specs.Standing.{IsStart}
-use Rattle.ssd_geo.specs.Start.{BlockCells, Start, blank_cells, cells_at, empty_levels}
-use Rattle.ssd_geo.specs.States.{is_frontier}
+use Rattle.ssd_histories.specs.PastBlocks.{block_before, blocks_of, state_of}
+use Rattle.ssd_histories.specs.PastPages.{levels_in, running_sum, stored_in_image, sum_in_image, sum_of_open}
+use Rattle.ssd_histories.specs.Ranges.{has_place}
+use Rattle.ssd_histories.specs.Standing.{IsStart}
+use Rattle.ssd_histories.specs.Start.{BlockCells, Start, blank_cells, cells_at, empty_levels}
+use Rattle.ssd_histories.specs.States.{is_frontier}
 use Rattle.ssd_geo.specs.StripeLaws.{IsPlace}
 use Rattle.ssd_geo.specs.StripeSum.{zero_word}
 use Rattle.ssd_geo.specs.declared.base.BlockBase.{BlockBase}
@@ -20,7 +20,7 @@ use Rattle.ssd_geo.specs.declared.base.ChannelBase.{ChannelBase}
 use Rattle.ssd_geo.specs.declared.place.Place.{Place}
 use Rattle.ssd_geo.specs.declared.superblock.SbState.{SbState}
 use Rattle.ssd_geo.specs.declared.tag.Tag.{Tag}
-use Rattle.ssd_geo.proofs.OneOfEach.{found_block}
+use Rattle.ssd_histories.proofs.OneOfEach.{found_block}
 use Rattle.chan_state.specs.CellsState.{AreCellsOf, CellsFit, CellsState}
 use Rattle.chan_state.specs.ChannelState.{IsBlankStart, blank_start, page_number}
 use Rattle.chan_state.proofs.Frontiers.{none_is_frontier, one_at_start, state_at_start}

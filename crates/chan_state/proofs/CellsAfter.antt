@@ -1,10 +1,10 @@
 -- The cells of a channel fit its past after an entry that changes no page and no running sum.
 use Rattle.std.proofs.Common.{ℕ, List, ◌∷◌}
-use Rattle.ssd_geo.specs.Start.{Start}
+use Rattle.ssd_histories.specs.Start.{Start}
 use Rattle.ssd_geo.specs.declared.entry.Entry.{Entry}
 use Rattle.ssd_geo.specs.declared.kind.Kind.{Kind}
 use Rattle.ssd_geo.specs.declared.tag.Tag.{Tag}
-use Rattle.ssd_geo.proofs.UsedSlots.{made}
+use Rattle.ssd_histories.proofs.UsedSlots.{made}
 use Rattle.chan_state.specs.CellsState.{CellsFit, CellsState}
 
 -- an entry programs, erases and ages nothing, and picks no superblock

@@ -2,15 +2,15 @@
 use Rattle.std.proofs.Common.{◌≡◌, ℕ, ◌<◌, Bool, List, ◌∷◌, sym, ◌∙◌, ap, subst, Some}
 use Rattle.std.specs.Prelude.{IfSome, IsTrue}
 use Rattle.ssd_geo.specs.Coding.{coding_of}
-use Rattle.ssd_geo.specs.History.{look_by, open_look}
+use Rattle.ssd_histories.specs.History.{look_by, open_look}
 use Rattle.ssd_geo.specs.Ladder.{LadderState, has_answer, is_uncorrectable}
-use Rattle.ssd_geo.specs.Lawful.{IsLawfulChanged, IsLawfulCondemn, IsLawfulEntry, IsLawfulKind}
-use Rattle.ssd_geo.specs.OpenLooks.{look_at}
-use Rattle.ssd_geo.specs.PastPages.{ladder_of}
-use Rattle.ssd_geo.specs.PastRows.{rows_of}
-use Rattle.ssd_geo.specs.Ranges.{is_in_range}
-use Rattle.ssd_geo.specs.SerialCalls.{entry_of}
-use Rattle.ssd_geo.specs.Start.{Start}
+use Rattle.ssd_histories.specs.Lawful.{IsLawfulChanged, IsLawfulCondemn, IsLawfulEntry, IsLawfulKind}
+use Rattle.ssd_histories.specs.OpenLooks.{look_at}
+use Rattle.ssd_histories.specs.PastPages.{ladder_of}
+use Rattle.ssd_histories.specs.PastRows.{rows_of}
+use Rattle.ssd_histories.specs.Ranges.{is_in_range}
+use Rattle.ssd_histories.specs.SerialCalls.{entry_of}
+use Rattle.ssd_histories.specs.Start.{Start}
 use Rattle.ssd_geo.specs.declared.base.ChannelBase.{ChannelBase}
 use Rattle.ssd_geo.specs.declared.entry.Entry.{Entry}
 use Rattle.ssd_geo.specs.declared.kind.Kind.{Kind}

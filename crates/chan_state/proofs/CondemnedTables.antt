@@ -3,11 +3,11 @@ use Rattle.std.proofs.Common.{◌≡◌, ℕ, true, List, ◌∷◌, refl, sym, 
 use Rattle.std.specs.Prelude.{IsFalse, IsSome, option_map}
 use Rattle.allocator.specs.Superblocks.{Superblocks}
 use Rattle.map_rows.specs.PageMap.{PageMap}
-use Rattle.ssd_geo.specs.Copies.{is_after_uncorrectable}
-use Rattle.ssd_geo.specs.History.{look_of}
-use Rattle.ssd_geo.specs.HistoryLaws.{rows_after}
-use Rattle.ssd_geo.specs.OpenLooks.{look_at}
-use Rattle.ssd_geo.specs.SerialCalls.{entry_of}
+use Rattle.ssd_histories.specs.Copies.{is_after_uncorrectable}
+use Rattle.ssd_histories.specs.History.{look_of}
+use Rattle.ssd_histories.specs.HistoryLaws.{rows_after}
+use Rattle.ssd_histories.specs.OpenLooks.{look_at}
+use Rattle.ssd_histories.specs.SerialCalls.{entry_of}
 use Rattle.ssd_geo.specs.declared.kind.Kind.{Kind}
 use Rattle.ssd_geo.specs.declared.look.Look.{Look}
 use Rattle.ssd_geo.specs.declared.row.Row.{Row}

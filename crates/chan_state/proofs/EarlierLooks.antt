@@ -4,15 +4,15 @@ use Rattle.std.specs.Prelude.{IfSome, unwrap_or}
 use Rattle.std.proofs.lemmas.Bool.{eqb-true}
 use Rattle.std.proofs.lemmas.Bool.Decides.{nat_tests}
 use Rattle.std.proofs.lemmas.List.Elements.{All-nil, All-cons, All-head, All-tail, All-append, All-weaker}
-use Rattle.ssd_geo.specs.History.{is_same_tag, look_by, look_made, look_of, looks_after, open_looks, with_look}
-use Rattle.ssd_geo.specs.OpenLooks.{began_at, look_at}
-use Rattle.ssd_geo.specs.SerialCalls.{entry_of}
+use Rattle.ssd_histories.specs.History.{is_same_tag, look_by, look_made, look_of, looks_after, open_looks, with_look}
+use Rattle.ssd_histories.specs.OpenLooks.{began_at, look_at}
+use Rattle.ssd_histories.specs.SerialCalls.{entry_of}
 use Rattle.ssd_geo.specs.declared.entry.Entry.{Entry}
 use Rattle.ssd_geo.specs.declared.kind.Kind.{Kind}
 use Rattle.ssd_geo.specs.declared.look.Look.{Look}
 use Rattle.ssd_geo.specs.declared.row.Row.{Row}
 use Rattle.ssd_geo.specs.declared.tag.Tag.{Tag}
-use Rattle.ssd_geo.proofs.OpenLookLaws.{all_left}
+use Rattle.ssd_histories.proofs.OpenLookLaws.{all_left}
 
 -- a look began before a position
 abbrev pub BeganBefore : ℕ → Tag × Look → Type 0

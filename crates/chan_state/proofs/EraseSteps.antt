@@ -1,17 +1,17 @@
 -- An erase keeps for what a channel stands.
 use Rattle.std.proofs.Common.{◌≡◌, ℕ, ◌*◌, ◌<◌, nat_lt, true, List, [], ◌∷◌, length, sym, ◌∙◌, ap, subst, Some, arith}
 use Rattle.std.proofs.lemmas.Bool.Decides.{nat_tests}
-use Rattle.ssd_geo.specs.Blocks as Blocks
+use Rattle.ssd_histories.specs.Blocks as Blocks
 use Rattle.ssd_geo.specs.Coding.{coding_of}
 use Rattle.ssd_geo.specs.Ladder.{LadderState}
-use Rattle.ssd_geo.specs.Lawful.{IsLawfulEntry}
-use Rattle.ssd_geo.specs.OpenLooks.{looks_in}
-use Rattle.ssd_geo.specs.PageMap.{live_in}
-use Rattle.ssd_geo.specs.PastBlocks.{blocks_of}
-use Rattle.ssd_geo.specs.PastPages.{ladder_of}
-use Rattle.ssd_geo.specs.Room.{live_of, pins_of, victim_of}
-use Rattle.ssd_geo.specs.SerialCalls.{entry_of}
-use Rattle.ssd_geo.specs.WeakDies.{dies_in}
+use Rattle.ssd_histories.specs.Lawful.{IsLawfulEntry}
+use Rattle.ssd_histories.specs.OpenLooks.{looks_in}
+use Rattle.ssd_histories.specs.PageMap.{live_in}
+use Rattle.ssd_histories.specs.PastBlocks.{blocks_of}
+use Rattle.ssd_histories.specs.PastPages.{ladder_of}
+use Rattle.ssd_histories.specs.Room.{live_of, pins_of, victim_of}
+use Rattle.ssd_histories.specs.SerialCalls.{entry_of}
+use Rattle.ssd_histories.specs.WeakDies.{dies_in}
 use Rattle.ssd_geo.specs.declared.base.BlockBase.{BlockBase}
 use Rattle.ssd_geo.specs.declared.base.ChannelBase.{ChannelBase}
 use Rattle.ssd_geo.specs.declared.entry.Entry.{Entry}
@@ -20,8 +20,8 @@ use Rattle.ssd_geo.specs.declared.look.Look.{Look}
 use Rattle.ssd_geo.specs.declared.row.Row.{Row}
 use Rattle.ssd_geo.specs.declared.shape.Shape.{Shape}
 use Rattle.ssd_geo.specs.declared.tag.Tag.{Tag}
-use Rattle.ssd_geo.proofs.BlockSteps.{blocks_after_entry}
-use Rattle.ssd_geo.proofs.OneOfEach.{found_block}
+use Rattle.ssd_histories.proofs.BlockSteps.{blocks_after_entry}
+use Rattle.ssd_histories.proofs.OneOfEach.{found_block}
 use Rattle.chan_state.specs.CellsState.{CellsFit, CellsState, cells_after_erase}
 use Rattle.chan_state.specs.ChannelState.{ChannelState, KeepsStanding}
 use Rattle.chan_state.specs.Collecting.{IsEraseAnswer}
@@ -54,7 +54,7 @@ erase_stands : (channel : ChannelState) (tag : Tag) (sb : ℕ) → IsEraseAnswer
     → length channel.pages ≡ channel.shape.dies * channel.shape.superblocks * channel.shape.pages → KeepsStanding channel (channel_erased channel tag sb)
 erase_stands channel tag sb is pages start contents stands =
     let state : ℕ → LadderState = ladder_of (coding_of start.base) start contents channel.past in
-    let victim : victim_of start.base channel.past ≡ Some sb = subst (λ (blocks : List BlockBase). Blocks.victim_of blocks ≡ Some sb) stands.blocks_are is.0 in
+    let victim : victim_of start.base channel.past ≡ Some sb = subst (λ (blocks : List BlockBase). Blocks.victim_in blocks ≡ Some sb) stands.blocks_are is.0 in
     let live : live_of start.base channel.past sb ≡ 0 = subst (λ (rows : List Row). live_in rows sb ≡ 0) stands.rows_are is.1 in
     let pins : pins_of channel.past sb ≡ 0 = subst (λ (looks : List (Tag × Look)). looks_in looks sb ≡ 0) stands.looks_are is.2 in
     let lawful : IsLawfulEntry state start.base channel.past (entry_of tag (Kind.Erase sb)) = lawful_erase state start.base channel.past tag sb victim live pins stands.none_weak in

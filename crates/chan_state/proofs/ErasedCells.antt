@@ -7,13 +7,13 @@ use Rattle.std.proofs.lemmas.List.FromFn.{get_or-map-range_with_len}
 use Rattle.std.proofs.lemmas.List.Quantifiers.{position-Some}
 use Rattle.std.proofs.lemmas.Nat.{div-mul-add, mod-mul-add}
 use Rattle.ssd_geo.specs.Bits.{bytes_sum}
-use Rattle.ssd_geo.specs.Blocks as Blocks
+use Rattle.ssd_histories.specs.Blocks as Blocks
 use Rattle.ssd_geo.specs.Coding.{coding_of, word_bytes_in}
-use Rattle.ssd_geo.specs.PastBlocks.{blocks_of, used_of}
-use Rattle.ssd_geo.specs.PastPages.{PageChange, StoredPage, programs, programs_parity, empties, ages, leaves, adds, clears, keeps, aged_page, change_when, fresh_page, levels_in, levels_of, page_of, running_sum, sum_of, sum_of_open, sum_when}
-use Rattle.ssd_geo.specs.Ranges.{has_place}
-use Rattle.ssd_geo.specs.Start.{Start, empty_levels}
-use Rattle.ssd_geo.specs.States as States
+use Rattle.ssd_histories.specs.PastBlocks.{blocks_of, used_of}
+use Rattle.ssd_histories.specs.PastPages.{PageChange, StoredPage, programs, programs_parity, empties, ages, leaves, adds, clears, keeps, aged_page, change_when, fresh_page, levels_in, levels_of, page_of, running_sum, sum_of, sum_of_open, sum_when}
+use Rattle.ssd_histories.specs.Ranges.{has_place}
+use Rattle.ssd_histories.specs.Start.{Start, empty_levels}
+use Rattle.ssd_histories.specs.States as States
 use Rattle.ssd_geo.specs.Stripe.{stripe_of_index}
 use Rattle.ssd_geo.specs.StripeLaws.{IsPlace}
 use Rattle.ssd_geo.specs.StripeSum.{zero_word}
@@ -24,7 +24,7 @@ use Rattle.ssd_geo.specs.declared.place.Place.{Place}
 use Rattle.ssd_geo.specs.declared.shape.Shape.{Shape}
 use Rattle.ssd_geo.specs.declared.superblock.SbState.{SbState}
 use Rattle.ssd_geo.specs.declared.tag.Tag.{Tag}
-use Rattle.ssd_geo.proofs.UsedSlots.{made}
+use Rattle.ssd_histories.proofs.UsedSlots.{made}
 use Rattle.chan_state.specs.CellsState.{CellsFit, CellsState, cells_after_erase, is_in_superblock, page_after_erase, pages_after_erase}
 use Rattle.chan_state.specs.ChannelState.{page_number}
 use Rattle.chan_state.proofs.PageNumbers.{page_number-lt, place_in_range}
@@ -96,16 +96,16 @@ victim_no_frontier SbState.Free e = refl
 victim_no_frontier SbState.Sealed e = refl
 victim_no_frontier SbState.Bad e = refl
 
-victim_block_no_frontier : (blocks : List BlockBase) (sb : ℕ) → Blocks.victim_of blocks ≡ Some sb → Blocks.is_frontier_block (Blocks.block_at blocks sb) ≡ false
+victim_block_no_frontier : (blocks : List BlockBase) (sb : ℕ) → Blocks.victim_in blocks ≡ Some sb → Blocks.is_frontier_block (Blocks.block_at blocks sb) ≡ false
 victim_block_no_frontier blocks sb e =
     victim_no_frontier (Blocks.block_at blocks sb).state (position-Some Blocks.is_victim_block blocks sb Blocks.blank_block e).1
 
-frontier_kept : (blocks : List BlockBase) (sb : ℕ) → Blocks.victim_of blocks ≡ Some sb → Blocks.frontier_of (Blocks.with_erased blocks sb) ≡ Blocks.frontier_of blocks
+frontier_kept : (blocks : List BlockBase) (sb : ℕ) → Blocks.victim_in blocks ≡ Some sb → Blocks.frontier_of (Blocks.with_erased blocks sb) ≡ Blocks.frontier_of blocks
 frontier_kept blocks sb e =
     position_kept Blocks.is_frontier_block blocks sb (Blocks.erased_block (Blocks.block_at blocks sb)) (sym (victim_block_no_frontier blocks sb e))
 
 -- the frontier is another superblock than the victim
-frontier_other : (blocks : List BlockBase) (sb k : ℕ) → Blocks.victim_of blocks ≡ Some sb → Blocks.frontier_of blocks ≡ Some k → (sb == k) ≡ false
+frontier_other : (blocks : List BlockBase) (sb k : ℕ) → Blocks.victim_in blocks ≡ Some sb → Blocks.frontier_of blocks ≡ Some k → (sb == k) ≡ false
 frontier_other blocks sb k victim frontier = by_test (sb == k) refl
   where
     same : (a b : ℕ) → (a == b) ≡ true → a ≡ b
@@ -137,7 +137,7 @@ other_sum start contents past tag sb k e = ap {B = List ℕ} by_erased e
           ]
         ]
 
-erase_sum : (start : Start) (contents : List (Tag × List ℕ)) (past : List Entry) (tag : Tag) (sb : ℕ) → Blocks.victim_of (blocks_of start.base past) ≡ Some sb
+erase_sum : (start : Start) (contents : List (Tag × List ℕ)) (past : List Entry) (tag : Tag) (sb : ℕ) → Blocks.victim_in (blocks_of start.base past) ≡ Some sb
     → blocks_of start.base (made tag (Kind.Erase sb) ∷ past) ≡ Blocks.with_erased (blocks_of start.base past) sb
     → running_sum (coding_of start.base) start contents (made tag (Kind.Erase sb) ∷ past) ≡ running_sum (coding_of start.base) start contents past
 erase_sum start contents past tag sb victim blocks =
@@ -158,7 +158,7 @@ erase_sum start contents past tag sb victim blocks =
 
 -- the cells fit after an erase where they fitted before
 pub erase_fits : (start : Start) (contents : List (Tag × List ℕ)) (past : List Entry) (tag : Tag) (sb : ℕ) (cells : CellsState)
-    → Blocks.victim_of (blocks_of start.base past) ≡ Some sb
+    → Blocks.victim_in (blocks_of start.base past) ≡ Some sb
     → blocks_of start.base (made tag (Kind.Erase sb) ∷ past) ≡ Blocks.with_erased (blocks_of start.base past) sb
     → length cells.pages ≡ start.base.shape.dies * start.base.shape.superblocks * start.base.shape.pages
     → CellsFit start contents past cells

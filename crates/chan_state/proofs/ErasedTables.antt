@@ -6,8 +6,8 @@ use Rattle.std.proofs.lemmas.List.Elements.{All-set, All-weaker}
 use Rattle.std.proofs.lemmas.List.Quantifiers.{position-Some}
 use Rattle.allocator.specs.Superblocks.{Superblocks}
 use Rattle.map_rows.specs.PageMap.{PageMap}
-use Rattle.ssd_geo.specs.Blocks.{blank_block, block_at, erased_block, is_victim_block, victim_of, with_erased}
-use Rattle.ssd_geo.specs.PageMap.{live_in, names_superblock, row_at}
+use Rattle.ssd_histories.specs.Blocks.{blank_block, block_at, erased_block, is_victim_block, victim_in, with_erased}
+use Rattle.ssd_histories.specs.PageMap.{live_in, names_superblock, row_at}
 use Rattle.ssd_geo.specs.declared.base.BlockBase.{BlockBase}
 use Rattle.ssd_geo.specs.declared.look.Look.{Look}
 use Rattle.ssd_geo.specs.declared.row.Row.{Row}
@@ -18,7 +18,7 @@ use Rattle.chan_state.proofs.FreeBlocks.{live_row}
 use Rattle.chan_state.proofs.Longer.{IsLonger}
 
 -- the victim is one of the superblocks
-victim_lt : (blocks : List BlockBase) (sb : ℕ) → victim_of blocks ≡ Some sb → sb < length blocks
+victim_lt : (blocks : List BlockBase) (sb : ℕ) → victim_in blocks ≡ Some sb → sb < length blocks
 victim_lt blocks sb e = (position-Some is_victim_block blocks sb blank_block e).0
 
 -- a row that names no slot of a superblock names a used one after its erase
@@ -41,7 +41,7 @@ not_live rows row sb none = by_test (names_superblock sb (row_at rows row)) (λ 
     by_test false h = refl
 
 pub fit_erase : (shape : Shape) (session : ℕ) (map : PageMap) (blocks : Superblocks) (looks : List (Tag × Look)) (history later : HistoryState) (sb : ℕ)
-    → FitTogether shape session map blocks looks history → victim_of blocks.blocks ≡ Some sb → live_in map.rows sb ≡ 0
+    → FitTogether shape session map blocks looks history → victim_in blocks.blocks ≡ Some sb → live_in map.rows sb ≡ 0
     → IsLonger shape.rows history looks later → length history.past < length later.past
     → FitTogether shape session map (record blocks { blocks = with_erased blocks.blocks sb }) looks later
 fit_erase shape session map blocks looks history later sb fit victim none longer more =

@@ -5,7 +5,7 @@ use Rattle.std.proofs.lemmas.Bool.{cases_lt}
 use Rattle.std.proofs.lemmas.Bool.Decides.{nat_tests}
 use Rattle.std.proofs.lemmas.List.{ext_get_or, get_or-replicate, get_or_past, length-replicate}
 use Rattle.map_rows.specs.PageMap.{PageMap}
-use Rattle.ssd_geo.specs.PageMap.{NameApart, NoOtherNames, is_slot, names_slot, row_at}
+use Rattle.ssd_histories.specs.PageMap.{NameApart, NoOtherNames, is_slot, names_slot, row_at}
 use Rattle.ssd_geo.specs.declared.row.Row.{Row}
 use Rattle.ssd_geo.specs.declared.slot.Slot.{Slot}
 

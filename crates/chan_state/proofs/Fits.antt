@@ -3,8 +3,8 @@ use Rattle.std.proofs.Common.{◌≡◌, ℕ, ◌<◌, ◌≤◌, ◌^◌, List,
 use Rattle.std.proofs.lemmas.List.Elements.{All-set, All-weaker}
 use Rattle.map_rows.specs.PageMap.{PageMap}
 use Rattle.allocator.specs.Superblocks.{Superblocks}
-use Rattle.ssd_geo.specs.Blocks.{block_at, blank_block, next_slot_of, with_next_used, with_slot_used}
-use Rattle.ssd_geo.specs.OpenLooks.{look_at}
+use Rattle.ssd_histories.specs.Blocks.{block_at, blank_block, next_slot_of, with_next_used, with_slot_used}
+use Rattle.ssd_histories.specs.OpenLooks.{look_at}
 use Rattle.ssd_geo.specs.declared.base.BlockBase.{BlockBase}
 use Rattle.ssd_geo.specs.declared.look.Look.{Look}
 use Rattle.ssd_geo.specs.declared.row.Row.{Row}

@@ -4,8 +4,8 @@ use Rattle.std.specs.Prelude.{count_by, is_some, is_none, position, if◌then◌
 use Rattle.std.specs.List.{list_all}
 use Rattle.std.proofs.lemmas.Bool.Decides.{nat_tests}
 use Rattle.std.proofs.lemmas.List.Sums.{fails_before_first, sum_by-cons}
-use Rattle.ssd_geo.specs.Blocks.{blank_block, block_at, count_of_free, first_some, freshest_of, frontier_of, has_host_room, is_free_block, is_freshest, is_no_fresher, left_in, next_slot_of, next_superblock, slot_in, victim_of}
-use Rattle.ssd_geo.specs.PageMap.{live_in, names_superblock, row_at}
+use Rattle.ssd_histories.specs.Blocks.{blank_block, block_at, free_blocks_in, first_some, freshest_of, frontier_of, blocks_have_room, is_free_block, is_freshest, is_no_fresher, left_in, next_slot_of, next_superblock, slot_in, victim_in}
+use Rattle.ssd_histories.specs.PageMap.{live_in, names_superblock, row_at}
 use Rattle.ssd_geo.specs.declared.base.BlockBase.{BlockBase}
 use Rattle.ssd_geo.specs.declared.look.Look.{Look}
 use Rattle.ssd_geo.specs.declared.row.Row.{Row}
@@ -70,7 +70,7 @@ none_counted p (x ∷ xs) none =
     let first : ◌≡◌ {A = ℕ} (cond (p x) 1 0) 0 = ap {B = ℕ} (λ (b : Bool). cond b 1 0) (none zero (omega arith)) in
     omega (arith, first, sum_by-cons (λ (y : BlockBase). cond (p y) 1 0) x xs, none_counted p xs (λ k lt. none (suc k) (omega arith)))
 
-none_free : (blocks : List BlockBase) → freshest_of blocks ≡ None → count_of_free blocks ≡ 0
+none_free : (blocks : List BlockBase) → freshest_of blocks ≡ None → free_blocks_in blocks ≡ 0
 none_free blocks e =
     none_counted is_free_block blocks
     (λ k lt.
@@ -88,11 +88,11 @@ none_next blocks (Some sb) e = cc
 none_next blocks None e = refl
 
 -- so the host has no room
-pub no_next_no_room : (blocks : List BlockBase) → next_slot_of blocks ≡ None → has_host_room blocks ≡ false
+pub no_next_no_room : (blocks : List BlockBase) → next_slot_of blocks ≡ None → blocks_have_room blocks ≡ false
 no_next_no_room blocks e =
     let both : (frontier_of blocks ≡ None) × (freshest_of blocks ≡ None) =
     neither (frontier_of blocks) (freshest_of blocks) (none_next blocks (next_superblock blocks) e) in
-    no_room (frontier_of blocks) (count_of_free blocks) both.0 (none_free blocks both.1)
+    no_room (frontier_of blocks) (free_blocks_in blocks) both.0 (none_free blocks both.1)
   where
     no_room : (frontier : Option ℕ) (free : ℕ) → frontier ≡ None → free ≡ 0 → (is_some frontier && nat_le 1 free || nat_le 2 free) ≡ false
     no_room frontier free closed none = rw (closed, none) refl
@@ -117,25 +117,25 @@ worn_by slots free live blocks frontier victim sb none closed is some =
 -- a look in the victim, whose page has no slot to go to, finds the channel worn
 pub worn_in_victim : (slots : ℕ) (blocks : List BlockBase) (rows : List Row) (look : Look) → is_in_victim blocks look ≡ true → copy_slot_of blocks look ≡ None → KeepsPage rows look
     → is_worn_with slots blocks rows ≡ true
-worn_in_victim slots blocks rows look inside none keeps = by_victim (victim_of blocks) refl inside
+worn_in_victim slots blocks rows look inside none keeps = by_victim (victim_in blocks) refl inside
   where
     either : (a b : Bool) → b ≡ true → (a || b) ≡ true
     either true b e = refl
     either false b e = e
 
     no_slot : next_slot_of blocks ≡ None
-    no_slot = sym (ap {B = Option Slot} (λ (b : Bool). if b then next_slot_of blocks else None) (either (has_host_room blocks) (is_in_victim blocks look) inside)) ∙ none
+    no_slot = sym (ap {B = Option Slot} (λ (b : Bool). if b then next_slot_of blocks else None) (either (blocks_have_room blocks) (is_in_victim blocks look) inside)) ∙ none
 
     both : (frontier_of blocks ≡ None) × (freshest_of blocks ≡ None)
     both = neither (frontier_of blocks) (freshest_of blocks) (none_next blocks (next_superblock blocks) no_slot)
 
-    by_victim : (o : Option ℕ) → victim_of blocks ≡ o → (elim o as (λ _. Bool) [ Some victim ↦ victim == look.slot.sb | None ↦ false ]) ≡ true
+    by_victim : (o : Option ℕ) → victim_in blocks ≡ o → (elim o as (λ _. Bool) [ Some victim ↦ victim == look.slot.sb | None ↦ false ]) ≡ true
         → is_worn_with slots blocks rows ≡ true
     by_victim None is here = absurd (grind (arith, here))
     by_victim (Some sb) is here =
         let names : names_superblock sb (row_at rows look.row) ≡ true = ap {B = Bool} (names_superblock sb) keeps ∙ turned sb look.slot.sb here in
         let live : live_in_victim blocks rows ≡ live_in rows sb = ap {B = ℕ} (λ (o : Option ℕ). elim o [ Some sb ↦ live_in rows sb | None ↦ 0 ]) is in
-        worn_by slots (count_of_free blocks) (live_in_victim blocks rows) blocks (frontier_of blocks) (victim_of blocks) sb
+        worn_by slots (free_blocks_in blocks) (live_in_victim blocks rows) blocks (frontier_of blocks) (victim_in blocks) sb
         (none_free blocks both.1) both.0 is (omega (arith, live, live_row rows look.row sb names))
       where
         turned : (a b : ℕ) → (a == b) ≡ true → (b == a) ≡ true

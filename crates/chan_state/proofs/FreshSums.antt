@@ -5,15 +5,15 @@ use Rattle.std.specs.List.{list_any}
 use Rattle.std.proofs.lemmas.Bool.Decides.{nat_tests}
 use Rattle.std.proofs.lemmas.Nat.{div-add-mod'}
 use Rattle.ssd_geo.specs.Coding.{coding_of, word_bytes_in}
-use Rattle.ssd_geo.specs.History.{open_look}
+use Rattle.ssd_histories.specs.History.{open_look}
 use Rattle.ssd_geo.specs.Ladder.{LadderState}
-use Rattle.ssd_geo.specs.Lawful.{IsLawfulBy, IsLawfulKind, IsLawfulMove}
-use Rattle.ssd_geo.specs.PastBlocks.{block_before, is_bad, turns_bad, used_of}
-use Rattle.ssd_geo.specs.PastPages.{SumChange, adds, clears, keeps, is_in_stripe, is_open_in_image, sum_change, sum_of, sum_when}
-use Rattle.ssd_geo.specs.Ranges.{has_slot, is_in_range}
-use Rattle.ssd_geo.specs.Room.{next_slot}
-use Rattle.ssd_geo.specs.Start.{Start}
-use Rattle.ssd_geo.specs.States as States
+use Rattle.ssd_histories.specs.Lawful.{IsLawfulBy, IsLawfulKind, IsLawfulMove}
+use Rattle.ssd_histories.specs.PastBlocks.{block_before, is_bad_superblock, turns_bad, used_of}
+use Rattle.ssd_histories.specs.PastPages.{SumChange, adds, clears, keeps, is_in_stripe, is_open_in_image, sum_change, sum_of, sum_when}
+use Rattle.ssd_histories.specs.Ranges.{has_slot, is_in_range}
+use Rattle.ssd_histories.specs.Room.{next_slot}
+use Rattle.ssd_histories.specs.Start.{Start}
+use Rattle.ssd_histories.specs.States as States
 use Rattle.ssd_geo.specs.Stripe.{parity_die, stripe_of_index}
 use Rattle.ssd_geo.specs.StripeSum.{zero_word}
 use Rattle.ssd_geo.specs.declared.base.ChannelBase.{ChannelBase}
@@ -21,8 +21,8 @@ use Rattle.ssd_geo.specs.declared.entry.Entry.{Entry}
 use Rattle.ssd_geo.specs.declared.kind.Kind.{Kind}
 use Rattle.ssd_geo.specs.declared.slot.Slot.{Slot}
 use Rattle.ssd_geo.specs.declared.tag.Tag.{Tag}
-use Rattle.ssd_geo.proofs.FreshPages.{two_dies}
-use Rattle.ssd_geo.proofs.UsedSlots.{made, next_is_used, of_some, second_holds, slot_in_range, used_kept}
+use Rattle.ssd_histories.proofs.FreshPages.{two_dies}
+use Rattle.ssd_histories.proofs.UsedSlots.{made, next_is_used, of_some, second_holds, slot_in_range, used_kept}
 
 -- the sum of each stripe of a superblock whose slots are all unused is zeros
 abbrev pub HasFreshSums : Start → List (Tag × List ℕ) → List Entry → ℕ → Type 0
@@ -169,7 +169,7 @@ turned_bad false true r e = e
 turned_bad false false r e = refl
 
 pub fresh_sums : (ladder : List Entry → ℕ → LadderState) (start : Start) (contents : List (Tag × List ℕ)) (past : List Entry)
-    → IsLawfulBy ladder start.base past → (sb : ℕ) → is_bad start.base past sb ≡ false → HasFreshSums start contents past sb
+    → IsLawfulBy ladder start.base past → (sb : ℕ) → is_bad_superblock start.base past sb ≡ false → HasFreshSums start contents past sb
 fresh_sums ladder start contents [] lawful sb good = first_sums start contents sb
 fresh_sums ladder start contents (entry ∷ past) lawful sb good =
     let before : Bool = States.is_bad (block_before start.base sb).state in

@@ -6,15 +6,15 @@ use Rattle.std.proofs.lemmas.Bool.Decides.{nat_tests}
 use Rattle.std.proofs.lemmas.List.FromFn.{length-map-range_with_len}
 use Rattle.std.proofs.lemmas.List.Folds.{list_all_at}
 use Rattle.std.proofs.lemmas.List.Sums.{fails_before_first, sum_by-cons, sum_by_more_le}
-use Rattle.ssd_geo.specs.BlockLaws.{AtMostOne}
-use Rattle.ssd_geo.specs.Blocks as Blocks
-use Rattle.ssd_geo.specs.PastBlocks.{block_before, block_of, blocks_of, is_bad, is_picked, slots_in, state_by, state_of, used_of}
-use Rattle.ssd_geo.specs.Ranges.{has_slot}
-use Rattle.ssd_geo.specs.Room.{next_slot}
-use Rattle.ssd_geo.specs.Standing.{IsStart}
-use Rattle.ssd_geo.specs.Start.{Start}
-use Rattle.ssd_geo.specs.States as States
-use Rattle.ssd_geo.specs.States.{is_frontier}
+use Rattle.ssd_histories.specs.BlockLaws.{AtMostOne}
+use Rattle.ssd_histories.specs.Blocks as Blocks
+use Rattle.ssd_histories.specs.PastBlocks.{block_before, block_of, blocks_of, is_bad_superblock, is_picked, slots_in, state_by, state_of, used_of}
+use Rattle.ssd_histories.specs.Ranges.{has_slot}
+use Rattle.ssd_histories.specs.Room.{next_slot}
+use Rattle.ssd_histories.specs.Standing.{IsStart}
+use Rattle.ssd_histories.specs.Start.{Start}
+use Rattle.ssd_histories.specs.States as States
+use Rattle.ssd_histories.specs.States.{is_frontier}
 use Rattle.ssd_geo.specs.declared.base.BlockBase.{BlockBase}
 use Rattle.ssd_geo.specs.declared.base.ChannelBase.{ChannelBase}
 use Rattle.ssd_geo.specs.declared.entry.Entry.{Entry}
@@ -22,9 +22,9 @@ use Rattle.ssd_geo.specs.declared.kind.Kind.{Kind}
 use Rattle.ssd_geo.specs.declared.slot.Slot.{Slot}
 use Rattle.ssd_geo.specs.declared.superblock.SbState.{SbState}
 use Rattle.ssd_geo.specs.declared.tag.Tag.{Tag}
-use Rattle.ssd_geo.proofs.OneOfEach.{found_block}
-use Rattle.ssd_geo.proofs.PinnedWords.{next_sound, slot_block, usable_next}
-use Rattle.ssd_geo.proofs.UsedSlots.{block_is, made}
+use Rattle.ssd_histories.proofs.OneOfEach.{found_block}
+use Rattle.ssd_histories.proofs.PinnedWords.{next_sound, slot_block, usable_next}
+use Rattle.ssd_histories.proofs.UsedSlots.{block_is, made}
 
 -- ---- at the start
 
@@ -120,7 +120,7 @@ next_in_frontier base past slot k next frontier =
 -- the state of another superblock stays
 other_stays : (base : ChannelBase) (past : List Entry) (tag : Tag) (row : ℕ) (slot : Slot) (k : ℕ) → (slot.sb == k) ≡ false → state_of base (made tag (Kind.Write row slot) ∷ past) k ≡ state_of base past k
 other_stays base past tag row slot k e =
-    ap {B = SbState} (λ (b : Bool). state_by (is_bad base past k) (is_picked base past k) (slots_in base) (if b then used_of base past k + 1 else used_of base past k)) e
+    ap {B = SbState} (λ (b : Bool). state_by (is_bad_superblock base past k) (is_picked base past k) (slots_in base) (if b then used_of base past k + 1 else used_of base past k)) e
 
 -- a frontier is the superblock of the slot
 pub frontier_is_slots : (base : ChannelBase) (past : List Entry) (tag : Tag) (row : ℕ) (slot : Slot) (k : ℕ) → AtMostOne is_frontier base past → next_slot base past ≡ Some slot
@@ -159,7 +159,7 @@ pub slots_is_frontier : (base : ChannelBase) (past : List Entry) (tag : Tag) (ro
     → (used_of base past slot.sb + 1 == slots_in base) ≡ false → is_frontier (state_of base (made tag (Kind.Write row slot) ∷ past) slot.sb) ≡ true
 slots_is_frontier base past tag row slot next range more =
     let picked : is_picked base past slot.sb ≡ false =
-    usable_unpicked (is_bad base past slot.sb) (is_picked base past slot.sb) (slots_in base) (used_of base past slot.sb) (usable_next base past slot next range) in
+    usable_unpicked (is_bad_superblock base past slot.sb) (is_picked base past slot.sb) (slots_in base) (used_of base past slot.sb) (usable_next base past slot next range) in
     let state : state_of base (made tag (Kind.Write row slot) ∷ past) slot.sb ≡ state_by false false (slots_in base) (used_of base past slot.sb + 1) =
     λ i. state_by (next_sound base past slot next range i) (picked i) (slots_in base) (one_more_used base past tag row slot i) in
     rw state (open_state (used_of base past slot.sb) (slots_in base) more)

@@ -1,15 +1,15 @@
 -- The entry of each answer to a move is lawful over the past of a channel that stands for a start.
 use Rattle.std.proofs.Common.{◌≡◌, ℕ, ◌<◌, ◌||◌, not, Bool, true, false, List, [], sym, ◌∙◌, ap, subst, Option, Some, None, refl}
 use Rattle.std.specs.Prelude.{IsTrue, IsSomeAnd, if◌then◌else◌, is_none}
-use Rattle.ssd_geo.specs.Blocks as Blocks
-use Rattle.ssd_geo.specs.History.{open_look}
+use Rattle.ssd_histories.specs.Blocks as Blocks
+use Rattle.ssd_histories.specs.History.{open_look}
 use Rattle.ssd_geo.specs.Ladder.{LadderState, has_answer, is_recovered, recovered}
-use Rattle.ssd_geo.specs.Lawful.{IsLawfulChanged, IsLawfulEntry, IsLawfulKind, IsLawfulMove, IsLawfulStay, IsUnchanged, lacks_room}
-use Rattle.ssd_geo.specs.PastBlocks.{blocks_of, slots_in}
-use Rattle.ssd_geo.specs.PastRows.{rows_of}
-use Rattle.ssd_geo.specs.Ranges.{is_in_range}
-use Rattle.ssd_geo.specs.SerialCalls.{entry_of}
-use Rattle.ssd_geo.specs.WeakDies.{dies_of_program}
+use Rattle.ssd_histories.specs.Lawful.{IsLawfulChanged, IsLawfulEntry, IsLawfulKind, IsLawfulMove, IsLawfulStay, IsUnchanged, lacks_room}
+use Rattle.ssd_histories.specs.PastBlocks.{blocks_of, slots_in}
+use Rattle.ssd_histories.specs.PastRows.{rows_of}
+use Rattle.ssd_histories.specs.Ranges.{is_in_range}
+use Rattle.ssd_histories.specs.SerialCalls.{entry_of}
+use Rattle.ssd_histories.specs.WeakDies.{dies_of_program}
 use Rattle.ssd_geo.specs.declared.base.BlockBase.{BlockBase}
 use Rattle.ssd_geo.specs.declared.base.ChannelBase.{ChannelBase}
 use Rattle.ssd_geo.specs.declared.entry.Entry.{Entry}
@@ -40,12 +40,12 @@ no_room false false next has e = refl
 
 copy_lacks_room : (base : ChannelBase) (past : List Entry) (look : Look) → copy_slot_of (blocks_of base past) look ≡ None → IsTrue (lacks_room base past look)
 copy_lacks_room base past look e =
-    no_room (Blocks.has_host_room (blocks_of base past)) (is_in_victim (blocks_of base past) look) (Blocks.next_slot_of (blocks_of base past))
+    no_room (Blocks.blocks_have_room (blocks_of base past)) (is_in_victim (blocks_of base past) look) (Blocks.next_slot_of (blocks_of base past))
     (no_next_no_room (blocks_of base past)) e
 
 -- and one whose copy has a slot has room
-copy_has_room : (blocks : List BlockBase) (look : Look) (slot : Slot) → copy_slot_of blocks look ≡ Some slot → (Blocks.has_host_room blocks || is_in_victim blocks look) ≡ true
-copy_has_room blocks look slot e = by_room (Blocks.has_host_room blocks || is_in_victim blocks look) e
+copy_has_room : (blocks : List BlockBase) (look : Look) (slot : Slot) → copy_slot_of blocks look ≡ Some slot → (Blocks.blocks_have_room blocks || is_in_victim blocks look) ≡ true
+copy_has_room blocks look slot e = by_room (Blocks.blocks_have_room blocks || is_in_victim blocks look) e
   where
     by_room : (b : Bool) → (if b then Blocks.next_slot_of blocks else None) ≡ Some slot → b ≡ true
     by_room true e = refl

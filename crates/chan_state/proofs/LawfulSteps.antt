@@ -4,17 +4,17 @@ use Rattle.std.specs.Prelude.{IsTrue, IsFalse, IsSome, IsSomeAnd, ℤ}
 use Rattle.std.specs.List.{list_any}
 use Rattle.std.proofs.lemmas.Bool.Decides.{nat_tests}
 use Rattle.std.proofs.lemmas.List.FromFn.{get_or-map-range_with_len}
-use Rattle.ssd_geo.specs.Blocks as Blocks
-use Rattle.ssd_geo.specs.History.{look_by, open_look}
+use Rattle.ssd_histories.specs.Blocks as Blocks
+use Rattle.ssd_histories.specs.History.{look_by, open_look}
 use Rattle.ssd_geo.specs.Ladder.{LadderState, asks, has_answer}
-use Rattle.ssd_geo.specs.Lawful.{IsLawfulEntry, IsLawfulLeave, IsLawfulSense, has_fault_sense, is_closed_page}
-use Rattle.ssd_geo.specs.PageMap.{row_at}
-use Rattle.ssd_geo.specs.PastBlocks.{blocks_of, erases_of}
-use Rattle.ssd_geo.specs.PastRows.{row_of, rows_of}
-use Rattle.ssd_geo.specs.Ranges.{has_place, has_row, has_slot}
-use Rattle.ssd_geo.specs.SerialCalls.{entry_of}
+use Rattle.ssd_histories.specs.Lawful.{IsLawfulEntry, IsLawfulLeave, IsLawfulSense, has_fault_sense, is_closed_page}
+use Rattle.ssd_histories.specs.PageMap.{row_at}
+use Rattle.ssd_histories.specs.PastBlocks.{blocks_of, erases_of}
+use Rattle.ssd_histories.specs.PastRows.{row_of, rows_of}
+use Rattle.ssd_histories.specs.Ranges.{has_place, has_row, has_slot}
+use Rattle.ssd_histories.specs.SerialCalls.{entry_of}
 use Rattle.ssd_geo.specs.Stripe.{is_closed, stripe_of_index}
-use Rattle.ssd_geo.specs.WeakDies.{dies_of_program, is_listed, is_none_weak, is_weak}
+use Rattle.ssd_histories.specs.WeakDies.{dies_of_program, is_listed, is_none_weak, is_weak}
 use Rattle.ssd_geo.specs.declared.base.BlockBase.{BlockBase}
 use Rattle.ssd_geo.specs.declared.base.ChannelBase.{ChannelBase}
 use Rattle.ssd_geo.specs.declared.entry.Entry.{Entry}
@@ -25,7 +25,7 @@ use Rattle.ssd_geo.specs.declared.row.Row.{Row}
 use Rattle.ssd_geo.specs.declared.shape.Shape.{Shape}
 use Rattle.ssd_geo.specs.declared.slot.Slot.{Slot}
 use Rattle.ssd_geo.specs.declared.tag.Tag.{Tag}
-use Rattle.ssd_geo.proofs.UsedSlots.{block_is}
+use Rattle.ssd_histories.proofs.UsedSlots.{block_is}
 use Rattle.chan_state.specs.TablesState.{is_closed_row}
 
 -- both tests hold
@@ -112,7 +112,7 @@ none_weak_listed base past sb dies none = ap {B = Bool} (λ (b : Bool). not b) (
     none_of (die ∷ dies) = ap {B = Bool} (λ (b : Bool). b || list_any (is_weak base past sb) dies) (no_die die) ∙ none_of dies
 
 pub lawful_write : (state : ℕ → LadderState) (base : ChannelBase) (past : List Entry) (tag : Tag) (row : ℕ) (slot : Slot) → row < base.shape.rows → IsTrue (has_slot base.shape slot)
-    → IsTrue (Blocks.has_host_room (blocks_of base past)) → Blocks.next_slot_of (blocks_of base past) ≡ Some slot → base.weak ≡ []
+    → IsTrue (Blocks.blocks_have_room (blocks_of base past)) → Blocks.next_slot_of (blocks_of base past) ≡ Some slot → base.weak ≡ []
     → IsLawfulEntry state base past (entry_of tag (Kind.Write row slot))
 lawful_write state base past tag row slot lt range room next none = record {
   in_range = both (nat_lt row base.shape.rows) (has_slot base.shape slot) (below_is row base.shape.rows lt) range;

@@ -28,9 +28,7 @@ pub mod PageNumbers
 pub mod ProgramSteps
 pub mod ProgrammedCells
 pub mod SetAside
-pub mod SmallStart
 pub mod Standing
 pub mod StandingSteps
 pub mod SumsAfter
-pub mod TriedSteps
 pub mod UsedRows

@@ -3,7 +3,7 @@ use Rattle.std.proofs.Common.{◌≡◌, ℕ, ◌==◌, ◌&&◌, true, List, sy
 use Rattle.std.specs.Prelude.{IfSome}
 use Rattle.std.proofs.lemmas.Bool.Decides.{nat_tests}
 use Rattle.std.proofs.lemmas.List.Quantifiers.{position-Some}
-use Rattle.ssd_geo.specs.PageMap.{first_live_in, is_slot, names_slot, owner_of, row_at}
+use Rattle.ssd_histories.specs.PageMap.{first_live_in, is_slot, names_slot, owner_of, row_at}
 use Rattle.ssd_geo.specs.declared.row.Row.{Row}
 use Rattle.ssd_geo.specs.declared.slot.Slot.{Slot}
 use Rattle.chan_state.specs.Collecting.{NamesFirstLive}

@@ -1,7 +1,7 @@
 -- A look of the victim's first live page keeps for what a channel stands.
 use Rattle.std.proofs.Common.{◌≡◌, ℕ, length, sym, ap, subst, None, Result, Ok, Err}
 use Rattle.std.specs.Prelude.{IfOk, OnErr}
-use Rattle.ssd_geo.specs.OpenLooks.{look_at}
+use Rattle.ssd_histories.specs.OpenLooks.{look_at}
 use Rattle.ssd_geo.specs.declared.stop.StepStop.{StepStop}
 use Rattle.ssd_geo.specs.declared.tag.Tag.{Tag}
 use Rattle.chan_state.specs.ChannelState.{ChannelState, KeepsStanding}

@@ -2,15 +2,15 @@
 use Rattle.std.proofs.Common.{◌≡◌, ℕ, ◌+◌, ◌<◌, ◌≤◌, List, [], ◌∷◌, ◌++◌, length, refl, sym, ◌∙◌, ap, arith, All}
 use Rattle.std.specs.Prelude.{IsSome}
 use Rattle.std.proofs.lemmas.List.Elements.{All-push}
-use Rattle.ssd_geo.specs.History.{looks_after, open_looks}
-use Rattle.ssd_geo.specs.OpenLooks.{look_at, without_look}
-use Rattle.ssd_geo.specs.SerialCalls.{entry_of}
+use Rattle.ssd_histories.specs.History.{looks_after, open_looks}
+use Rattle.ssd_histories.specs.OpenLooks.{look_at, without_look}
+use Rattle.ssd_histories.specs.SerialCalls.{entry_of}
 use Rattle.ssd_geo.specs.declared.entry.Entry.{Entry}
 use Rattle.ssd_geo.specs.declared.kind.Kind.{Kind}
 use Rattle.ssd_geo.specs.declared.look.Look.{Look}
 use Rattle.ssd_geo.specs.declared.row.Row.{Row}
 use Rattle.ssd_geo.specs.declared.tag.Tag.{Tag}
-use Rattle.ssd_geo.proofs.OpenLookLaws.{all_left}
+use Rattle.ssd_histories.proofs.OpenLookLaws.{all_left}
 use Rattle.chan_state.specs.TablesState.{HistoryState, IsOfRow, needed_for, room_of_look, room_of_step}
 use Rattle.chan_state.proofs.SetAside.{UsesOne, leave_fits, open_room, opened_fits, step_fits, unopened_fits, uses_fits}
 

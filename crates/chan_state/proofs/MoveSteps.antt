@@ -1,18 +1,18 @@
 -- A move keeps for what a channel stands, where the word is the one that the look's ladder recovered.
 use Rattle.std.proofs.Common.{◌≡◌, ℕ, ◌*◌, ◌<◌, Bool, true, false, List, ◌∷◌, length, sym, ◌∙◌, ap, subst, Option, Some, None, refl}
 use Rattle.std.specs.Prelude.{IfSome, IsTrue, IsSome, ℤ}
-use Rattle.ssd_geo.specs.Blocks.{block_at}
+use Rattle.ssd_histories.specs.Blocks.{block_at}
 use Rattle.ssd_geo.specs.Coding.{coding_of}
-use Rattle.ssd_geo.specs.History.{is_same_tag, look_by, open_look}
+use Rattle.ssd_histories.specs.History.{is_same_tag, look_by, open_look}
 use Rattle.ssd_geo.specs.Ladder.{recovered}
-use Rattle.ssd_geo.specs.Lawful.{IsLawfulEntry}
-use Rattle.ssd_geo.specs.OpenLooks.{look_at}
-use Rattle.ssd_geo.specs.PastBlocks.{blocks_of, erases_of, slots_in}
-use Rattle.ssd_geo.specs.PastPages.{ladder_of}
-use Rattle.ssd_geo.specs.PastRows.{rows_of}
-use Rattle.ssd_geo.specs.Ranges.{is_in_range}
-use Rattle.ssd_geo.specs.SerialCalls.{entry_of}
-use Rattle.ssd_geo.specs.Start.{Start}
+use Rattle.ssd_histories.specs.Lawful.{IsLawfulEntry}
+use Rattle.ssd_histories.specs.OpenLooks.{look_at}
+use Rattle.ssd_histories.specs.PastBlocks.{blocks_of, erases_of, slots_in}
+use Rattle.ssd_histories.specs.PastPages.{ladder_of}
+use Rattle.ssd_histories.specs.PastRows.{rows_of}
+use Rattle.ssd_histories.specs.Ranges.{is_in_range}
+use Rattle.ssd_histories.specs.SerialCalls.{entry_of}
+use Rattle.ssd_histories.specs.Start.{Start}
 use Rattle.ssd_geo.specs.Superblock.{slots_of}
 use Rattle.ssd_geo.specs.declared.base.BlockBase.{BlockBase}
 use Rattle.ssd_geo.specs.declared.kind.Kind.{Kind}

@@ -3,12 +3,12 @@ use Rattle.std.proofs.Common.{◌≡◌, ℕ, ◌||◌, if◌then◌else◌, Boo
 use Rattle.std.specs.Prelude.{IsFalse, IsSome, option_map}
 use Rattle.allocator.specs.Superblocks.{Superblocks}
 use Rattle.map_rows.specs.PageMap.{PageMap}
-use Rattle.ssd_geo.specs.Blocks.{has_host_room, next_slot_of, with_next_used}
-use Rattle.ssd_geo.specs.Copies.{is_after_recovered}
-use Rattle.ssd_geo.specs.History.{look_of}
-use Rattle.ssd_geo.specs.HistoryLaws.{rows_after}
-use Rattle.ssd_geo.specs.OpenLooks.{look_at}
-use Rattle.ssd_geo.specs.SerialCalls.{entry_of}
+use Rattle.ssd_histories.specs.Blocks.{blocks_have_room, next_slot_of, with_next_used}
+use Rattle.ssd_histories.specs.Copies.{is_after_recovered}
+use Rattle.ssd_histories.specs.History.{look_of}
+use Rattle.ssd_histories.specs.HistoryLaws.{rows_after}
+use Rattle.ssd_histories.specs.OpenLooks.{look_at}
+use Rattle.ssd_histories.specs.SerialCalls.{entry_of}
 use Rattle.ssd_geo.specs.Superblock.{slots_of}
 use Rattle.ssd_geo.specs.declared.base.BlockBase.{BlockBase}
 use Rattle.ssd_geo.specs.declared.kind.Kind.{Kind}
@@ -27,7 +27,7 @@ use Rattle.chan_state.proofs.SetAside.{recovered_uses}
 
 -- the slot for a copy is the next one
 pub copy_is_next : (blocks : List BlockBase) (look : Look) (slot : Slot) → copy_slot_of blocks look ≡ Some slot → next_slot_of blocks ≡ Some slot
-copy_is_next blocks look slot e = by_room (has_host_room blocks || is_in_victim blocks look) e
+copy_is_next blocks look slot e = by_room (blocks_have_room blocks || is_in_victim blocks look) e
   where
     by_room : (b : Bool) → (if b then next_slot_of blocks else None) ≡ Some slot → next_slot_of blocks ≡ Some slot
     by_room true e = e

@@ -4,7 +4,7 @@ use Rattle.std.proofs.Common.{◌≡◌, ◌≢◌, ℕ, ◌+◌, ◌-◌, ◌*�
 use Rattle.std.proofs.Math.Nat.{mul-le-mul_left}
 use Rattle.std.proofs.lemmas.Bool.Decides.{nat_tests}
 use Rattle.std.proofs.lemmas.Nat.{div-mul-add, mod-mul-add, mul-add-lt}
-use Rattle.ssd_geo.specs.Ranges.{has_place, has_slot}
+use Rattle.ssd_histories.specs.Ranges.{has_place, has_slot}
 use Rattle.ssd_geo.specs.Stripe.{place_of_parity, place_of_slot, stripe_of_index}
 use Rattle.ssd_geo.specs.StripeLaws.{HasPlace, IsPlace, IsSlot}
 use Rattle.ssd_geo.specs.Superblock.{slots_of}

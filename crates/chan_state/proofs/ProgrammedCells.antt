@@ -4,18 +4,18 @@ use Rattle.std.specs.Prelude.{option_map}
 use Rattle.std.proofs.lemmas.Bool.Decides.{nat_tests}
 use Rattle.std.proofs.lemmas.List.{get_or-set_other}
 use Rattle.ssd_geo.specs.Bits.{bytes_sum}
-use Rattle.ssd_geo.specs.BlockLaws.{AtMostOne}
+use Rattle.ssd_histories.specs.BlockLaws.{AtMostOne}
 use Rattle.ssd_geo.specs.Coding.{coding_of, word_bytes_in}
 use Rattle.ssd_geo.specs.Ladder.{LadderState, recovered, word_recovered}
-use Rattle.ssd_geo.specs.Lawful.{IsLawfulBy}
-use Rattle.ssd_geo.specs.PastBlocks.{erases_of}
-use Rattle.ssd_geo.specs.PastPages.{PageChange, StoredPage, programs, programs_parity, empties, ages, leaves, aged_page, change_by_program, fresh_page, is_place, ladder_of, levels_in, levels_of, page_of}
-use Rattle.ssd_geo.specs.PastRows.{serial_of}
-use Rattle.ssd_geo.specs.Ranges.{has_place, has_slot}
-use Rattle.ssd_geo.specs.Room.{next_slot}
-use Rattle.ssd_geo.specs.Standing.{IsStart}
-use Rattle.ssd_geo.specs.Start.{Start, data_of}
-use Rattle.ssd_geo.specs.States.{is_frontier}
+use Rattle.ssd_histories.specs.Lawful.{IsLawfulBy}
+use Rattle.ssd_histories.specs.PastBlocks.{erases_of}
+use Rattle.ssd_histories.specs.PastPages.{PageChange, StoredPage, programs, programs_parity, empties, ages, leaves, aged_page, change_by_program, fresh_page, is_place, ladder_of, levels_in, levels_of, page_of}
+use Rattle.ssd_histories.specs.PastRows.{serial_of}
+use Rattle.ssd_histories.specs.Ranges.{has_place, has_slot}
+use Rattle.ssd_histories.specs.Room.{next_slot}
+use Rattle.ssd_histories.specs.Standing.{IsStart}
+use Rattle.ssd_histories.specs.Start.{Start, data_of}
+use Rattle.ssd_histories.specs.States.{is_frontier}
 use Rattle.ssd_geo.specs.Stripe.{is_last_of_stripe, place_of_parity, place_of_slot, stripe_of_index}
 use Rattle.ssd_geo.specs.StripeSum.{zero_word}
 use Rattle.ssd_geo.specs.declared.cell_law.CellLaw.{CellLaw}
@@ -25,9 +25,9 @@ use Rattle.ssd_geo.specs.declared.place.Place.{Place}
 use Rattle.ssd_geo.specs.declared.shape.Shape.{Shape}
 use Rattle.ssd_geo.specs.declared.slot.Slot.{Slot}
 use Rattle.ssd_geo.specs.declared.tag.Tag.{Tag}
-use Rattle.ssd_geo.proofs.FreshSlots.{same_place}
-use Rattle.ssd_geo.proofs.OneOfEach.{one_frontier}
-use Rattle.ssd_geo.proofs.UsedSlots.{made}
+use Rattle.ssd_histories.proofs.FreshSlots.{same_place}
+use Rattle.ssd_histories.proofs.OneOfEach.{one_frontier}
+use Rattle.ssd_histories.proofs.UsedSlots.{made}
 use Rattle.chan_state.specs.CellsState.{CellsFit, CellsState, cells_after_program, pages_after_program, programmed_levels}
 use Rattle.chan_state.specs.ChannelState.{page_number}
 use Rattle.chan_state.proofs.Frontiers.{one_at_start}

@@ -3,9 +3,9 @@ use Rattle.std.proofs.Common.{◌≡◌, ℕ, ◌+◌, ◌*◌, ◌<◌, ◌≤�
 use Rattle.std.specs.Prelude.{if◌then◌else◌, sum_by, is_some, IsSome}
 use Rattle.std.proofs.lemmas.Bool.{eqb-true}
 use Rattle.std.proofs.lemmas.List.Sums.{sum_by-cons}
-use Rattle.ssd_geo.specs.CallSteps.{is_sense_of}
-use Rattle.ssd_geo.specs.Copies.{is_after_recovered, is_after_uncorrectable}
-use Rattle.ssd_geo.specs.OpenLooks.{began_at, look_at, without_look}
+use Rattle.ssd_histories.specs.CallSteps.{is_sense_of}
+use Rattle.ssd_histories.specs.Copies.{is_after_recovered, is_after_uncorrectable}
+use Rattle.ssd_histories.specs.OpenLooks.{began_at, look_at, without_look}
 use Rattle.ssd_geo.specs.declared.entry.Entry.{Entry}
 use Rattle.ssd_geo.specs.declared.look.Look.{Look}
 use Rattle.ssd_geo.specs.declared.tag.Tag.{Tag}

@@ -1,17 +1,17 @@
 -- What a channel stood for, it stands for after one more lawful entry, where its cells are those of the longer past.
 use Rattle.std.proofs.Common.{◌≡◌, ℕ, List, [], ◌∷◌, length, sym, ◌∙◌, ap, subst, Option, Some, None}
 use Rattle.std.specs.Prelude.{slice_index_or, ⊤}
-use Rattle.ssd_geo.specs.BlockLaws.{blocks_after}
+use Rattle.ssd_histories.specs.BlockLaws.{blocks_after}
 use Rattle.ssd_geo.specs.Coding.{coding_of}
-use Rattle.ssd_geo.specs.FollowedViews.{FollowsTold, IsAnsweredBy, view_of}
-use Rattle.ssd_geo.specs.History.{looks_after}
-use Rattle.ssd_geo.specs.HistoryLaws.{rows_after}
-use Rattle.ssd_geo.specs.Lawful.{IsLawful, IsLawfulEntry}
-use Rattle.ssd_geo.specs.PastBlocks.{blocks_of}
-use Rattle.ssd_geo.specs.PastPages.{ladder_of, levels_of}
-use Rattle.ssd_geo.specs.PastRows.{row_change, rows_of}
-use Rattle.ssd_geo.specs.SerialCalls.{entry_of}
-use Rattle.ssd_geo.specs.Start.{Start}
+use Rattle.ssd_histories.specs.FollowedViews.{FollowsTold, IsAnsweredBy, view_of}
+use Rattle.ssd_histories.specs.History.{looks_after}
+use Rattle.ssd_histories.specs.HistoryLaws.{rows_after}
+use Rattle.ssd_histories.specs.Lawful.{IsLawful, IsLawfulEntry}
+use Rattle.ssd_histories.specs.PastBlocks.{blocks_of}
+use Rattle.ssd_histories.specs.PastPages.{ladder_of, levels_of}
+use Rattle.ssd_histories.specs.PastRows.{row_change, rows_of}
+use Rattle.ssd_histories.specs.SerialCalls.{entry_of}
+use Rattle.ssd_histories.specs.Start.{Start}
 use Rattle.ssd_geo.specs.Superblock.{slots_of}
 use Rattle.ssd_geo.specs.declared.base.ChannelBase.{ChannelBase}
 use Rattle.ssd_geo.specs.declared.entry.Entry.{Entry}
@@ -19,8 +19,8 @@ use Rattle.ssd_geo.specs.declared.kind.Kind.{Kind}
 use Rattle.ssd_geo.specs.declared.policy_view.PolicyView.{PolicyView}
 use Rattle.ssd_geo.specs.declared.shape.Shape.{Shape}
 use Rattle.ssd_geo.specs.declared.tag.Tag.{Tag}
-use Rattle.ssd_geo.proofs.BlockSteps.{blocks_after_entry}
-use Rattle.ssd_geo.proofs.MapRows.{rows_after_entry}
+use Rattle.ssd_histories.proofs.BlockSteps.{blocks_after_entry}
+use Rattle.ssd_histories.proofs.MapRows.{rows_after_entry}
 use Rattle.chan_state.specs.CellsState.{CellsFit, CellsState}
 use Rattle.chan_state.specs.ChannelState.{ChannelState, StandsFor, page_number}
 use Rattle.chan_state.specs.Steps.{channel_of, cells_in, tables_in}

@@ -2,21 +2,21 @@
 use Rattle.std.proofs.Common.{◌≡◌, ℕ, ◌*◌, ◌<◌, Bool, true, false, List, ◌∷◌, length, sym, ◌∙◌, ap, subst, Some, None, Result, Ok, Err, ◌⊎◌, inl, inr, refl, arith}
 use Rattle.std.specs.Prelude.{IsTrue, IsSome, IfOk, OnOk, OnErr, ℤ}
 use Rattle.std.proofs.lemmas.Bool.Decides.{nat_tests}
-use Rattle.ssd_geo.specs.Blocks.{block_at, has_host_room, next_slot_of}
+use Rattle.ssd_histories.specs.Blocks.{block_at, blocks_have_room, next_slot_of}
 use Rattle.ssd_geo.specs.Cells.{sensed}
 use Rattle.ssd_geo.specs.Coding.{coding_of}
-use Rattle.ssd_geo.specs.History.{look_by, open_looks}
+use Rattle.ssd_histories.specs.History.{look_by, open_looks}
 use Rattle.ssd_geo.specs.Ladder.{LadderState}
-use Rattle.ssd_geo.specs.Lawful.{IsLawfulEntry}
-use Rattle.ssd_geo.proofs.UsedSlots.{block_is}
-use Rattle.ssd_geo.specs.OpenLooks.{look_at}
-use Rattle.ssd_geo.specs.PageMap.{row_at}
-use Rattle.ssd_geo.specs.PastBlocks.{blocks_of, erases_of}
-use Rattle.ssd_geo.specs.PastPages.{ladder_of}
-use Rattle.ssd_geo.specs.PastRows.{row_of}
-use Rattle.ssd_geo.specs.Ranges.{has_place, has_row, has_slot}
-use Rattle.ssd_geo.specs.SerialCalls.{entry_of}
-use Rattle.ssd_geo.specs.Start.{Start}
+use Rattle.ssd_histories.specs.Lawful.{IsLawfulEntry}
+use Rattle.ssd_histories.proofs.UsedSlots.{block_is}
+use Rattle.ssd_histories.specs.OpenLooks.{look_at}
+use Rattle.ssd_histories.specs.PageMap.{row_at}
+use Rattle.ssd_histories.specs.PastBlocks.{blocks_of, erases_of}
+use Rattle.ssd_histories.specs.PastPages.{ladder_of}
+use Rattle.ssd_histories.specs.PastRows.{row_of}
+use Rattle.ssd_histories.specs.Ranges.{has_place, has_row, has_slot}
+use Rattle.ssd_histories.specs.SerialCalls.{entry_of}
+use Rattle.ssd_histories.specs.Start.{Start}
 use Rattle.ssd_geo.specs.Superblock.{slots_of}
 use Rattle.ssd_geo.specs.declared.base.BlockBase.{BlockBase}
 use Rattle.ssd_geo.specs.declared.base.ChannelBase.{ChannelBase}
@@ -126,13 +126,13 @@ channel_written channel tag row slot word =
     (cells_after_program channel.shape channel.law channel.channel slot (block_at channel.blocks slot.sb).erases word (cells_in channel))
 
 pub write_stands : (channel : ChannelState) (tag : Tag) (row : ℕ) (slot : Slot) (word : List ℕ) → row < channel.shape.rows → IsTrue (has_slot channel.shape slot)
-    → IsTrue (has_host_room channel.blocks) → next_slot_of channel.blocks ≡ Some slot
+    → IsTrue (blocks_have_room channel.blocks) → next_slot_of channel.blocks ≡ Some slot
     → length channel.pages ≡ channel.shape.dies * channel.shape.superblocks * channel.shape.pages
     → WritesFor channel (channel_written channel tag row slot word) tag row word
 write_stands channel tag row slot word lt within room next pages start contents stands word_is =
     let low : row < start.base.shape.rows = subst (λ (shape : Shape). row < shape.rows) stands.shape_is lt in
     let range : IsTrue (has_slot start.base.shape slot) = subst (λ (shape : Shape). IsTrue (has_slot shape slot)) stands.shape_is within in
-    let has_room : IsTrue (has_host_room (blocks_of start.base channel.past)) = subst (λ (blocks : List BlockBase). IsTrue (has_host_room blocks)) stands.blocks_are room in
+    let has_room : IsTrue (blocks_have_room (blocks_of start.base channel.past)) = subst (λ (blocks : List BlockBase). IsTrue (blocks_have_room blocks)) stands.blocks_are room in
     let is_next : next_slot_of (blocks_of start.base channel.past) ≡ Some slot = subst (λ (blocks : List BlockBase). next_slot_of blocks ≡ Some slot) stands.blocks_are next in
     let count : length channel.pages ≡ start.base.shape.dies * start.base.shape.superblocks * start.base.shape.pages =
     subst (λ (shape : Shape). length channel.pages ≡ shape.dies * shape.superblocks * shape.pages) stands.shape_is pages in

@@ -5,29 +5,29 @@ use Rattle.std.proofs.lemmas.Bool.Decides.{nat_tests}
 use Rattle.std.proofs.lemmas.Nat.{div-add-mod'}
 use Rattle.std.proofs.Math.Nat.{mul-mod_left}
 use Rattle.ssd_geo.specs.Bits.{bytes_sum}
-use Rattle.ssd_geo.specs.BlockLaws.{AtMostOne}
-use Rattle.ssd_geo.specs.Blocks as Blocks
+use Rattle.ssd_histories.specs.BlockLaws.{AtMostOne}
+use Rattle.ssd_histories.specs.Blocks as Blocks
 use Rattle.ssd_geo.specs.Coding.{coding_of, word_bytes_in}
 use Rattle.ssd_geo.specs.Ladder.{LadderState}
-use Rattle.ssd_geo.specs.Lawful.{IsLawfulBy}
-use Rattle.ssd_geo.specs.PastBlocks.{blocks_of, is_bad, is_picked, slots_in, state_of, used_of}
-use Rattle.ssd_geo.specs.PastPages.{adds, clears, keeps, is_in_stripe, running_sum, sum_of, sum_of_open, sum_when}
-use Rattle.ssd_geo.specs.Ranges.{has_slot}
-use Rattle.ssd_geo.specs.Room.{next_slot}
-use Rattle.ssd_geo.specs.Start.{Start}
-use Rattle.ssd_geo.specs.States as States
-use Rattle.ssd_geo.specs.States.{is_frontier}
+use Rattle.ssd_histories.specs.Lawful.{IsLawfulBy}
+use Rattle.ssd_histories.specs.PastBlocks.{blocks_of, is_bad_superblock, is_picked, slots_in, state_of, used_of}
+use Rattle.ssd_histories.specs.PastPages.{adds, clears, keeps, is_in_stripe, running_sum, sum_of, sum_of_open, sum_when}
+use Rattle.ssd_histories.specs.Ranges.{has_slot}
+use Rattle.ssd_histories.specs.Room.{next_slot}
+use Rattle.ssd_histories.specs.Start.{Start}
+use Rattle.ssd_histories.specs.States as States
+use Rattle.ssd_histories.specs.States.{is_frontier}
 use Rattle.ssd_geo.specs.Stripe.{is_last_of_stripe, stripe_of_index}
 use Rattle.ssd_geo.specs.StripeSum.{zero_word}
 use Rattle.ssd_geo.specs.declared.entry.Entry.{Entry}
 use Rattle.ssd_geo.specs.declared.kind.Kind.{Kind}
 use Rattle.ssd_geo.specs.declared.slot.Slot.{Slot}
 use Rattle.ssd_geo.specs.declared.tag.Tag.{Tag}
-use Rattle.ssd_geo.proofs.FreshPages.{two_dies}
-use Rattle.ssd_geo.proofs.OneOfEach.{found_block}
-use Rattle.ssd_geo.proofs.PinnedWords.{next_sound, usable_next}
+use Rattle.ssd_histories.proofs.FreshPages.{two_dies}
+use Rattle.ssd_histories.proofs.OneOfEach.{found_block}
+use Rattle.ssd_histories.proofs.PinnedWords.{next_sound, usable_next}
 use Rattle.ssd_geo.proofs.Stripes.{one_more_closed}
-use Rattle.ssd_geo.proofs.UsedSlots.{made, next_is_used, slot_in_range}
+use Rattle.ssd_histories.proofs.UsedSlots.{made, next_is_used, slot_in_range}
 use Rattle.chan_state.proofs.FreshSums.{HasFreshSums, fresh_sums}
 use Rattle.chan_state.proofs.Frontiers.{free_has_none, frontier_is_found, frontier_is_slots, next_in_frontier, none_is_frontier, one_after_write, one_more_used, slots_is_frontier}
 
@@ -89,7 +89,7 @@ sum_before ladder start contents past slot lawful next range =
 
     none_used : is_frontier (state_of start.base past slot.sb) ≡ false → used_of start.base past slot.sb ≡ 0
     none_used e =
-        free_has_none (is_bad start.base past slot.sb) (is_picked start.base past slot.sb) (slots_in start.base) (used_of start.base past slot.sb)
+        free_has_none (is_bad_superblock start.base past slot.sb) (is_picked start.base past slot.sb) (slots_in start.base) (used_of start.base past slot.sb)
         (free_next (is_frontier (state_of start.base past slot.sb)) (States.is_free (state_of start.base past slot.sb)) (usable_next start.base past slot next range) e)
 
     by_frontier : (o : Option ℕ) → (o ≡ None → is_frontier (state_of start.base past slot.sb) ≡ false) → ((k : ℕ) → o ≡ Some k → k ≡ slot.sb)

@@ -1,12 +1,12 @@
 -- Rows that name used slots still do after a change of a row, and after one more slot is used.
 use Rattle.std.proofs.Common.{◌≡◌, ℕ, zero, suc, ◌+◌, ◌<◌, ◌≤◌, List, [], ◌∷◌, length, set, Option, Some, None, refl, sym, ◌∙◌, ap, subst, arith, get_or-set_same}
 use Rattle.std.specs.Prelude.{unwrap_or}
-use Rattle.ssd_geo.specs.Blocks.{blank_block, block_at, next_slot_of, next_superblock, slot_after_used, slot_in, used_in, with_next_used, with_slot_used}
-use Rattle.ssd_geo.specs.PageMap.{row_at}
+use Rattle.ssd_histories.specs.Blocks.{blank_block, block_at, next_slot_of, next_superblock, slot_after_used, slot_in, used_in, with_next_used, with_slot_used}
+use Rattle.ssd_histories.specs.PageMap.{row_at}
 use Rattle.ssd_geo.specs.declared.base.BlockBase.{BlockBase}
 use Rattle.ssd_geo.specs.declared.row.Row.{Row}
 use Rattle.ssd_geo.specs.declared.slot.Slot.{Slot}
-use Rattle.ssd_geo.proofs.PinnedWords.{slot_block}
+use Rattle.ssd_histories.proofs.PinnedWords.{slot_block}
 use Rattle.chan_state.specs.TablesState.{NamesUsedIn}
 
 pub names_set : (blocks : List BlockBase) (rows : List Row) (row : ℕ) (to : Row) → NamesUsedIn blocks to

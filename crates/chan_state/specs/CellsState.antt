@@ -7,9 +7,9 @@ use Rattle.ssd_geo.specs.Bits.{bytes_sum}
 use Rattle.ssd_geo.specs.Cells.{aged_level, fresh_levels}
 use Rattle.ssd_geo.specs.Coding.{coding_of, word_bytes_in}
 use Rattle.ssd_geo.specs.Noise.{number_of_page}
-use Rattle.ssd_geo.specs.PastPages.{levels_of, running_sum}
-use Rattle.ssd_geo.specs.Ranges.{has_place}
-use Rattle.ssd_geo.specs.Start.{Start}
+use Rattle.ssd_histories.specs.PastPages.{levels_of, running_sum}
+use Rattle.ssd_histories.specs.Ranges.{has_place}
+use Rattle.ssd_histories.specs.Start.{Start}
 use Rattle.ssd_geo.specs.Stripe.{is_last_of_stripe, place_of_parity, place_of_slot, stripe_of_index}
 use Rattle.ssd_geo.specs.StripeSum.{zero_word}
 use Rattle.ssd_geo.specs.declared.cell_law.CellLaw.{CellLaw}

@@ -1,9 +1,9 @@
 -- When does a collection find a live page in the victim, and when may it erase the victim?
 use Rattle.std.specs.Prelude.{ℕ, ◌≡◌, ◌≢◌, ◌<◌, IsTrue, List, Some}
-use Rattle.ssd_geo.specs.Blocks.{victim_of}
-use Rattle.ssd_geo.specs.OpenLooks.{looks_in}
-use Rattle.ssd_geo.specs.PageMap.{first_live_in, live_in, row_at}
-use Rattle.ssd_geo.specs.Ranges.{has_row}
+use Rattle.ssd_histories.specs.Blocks.{victim_in}
+use Rattle.ssd_histories.specs.OpenLooks.{looks_in}
+use Rattle.ssd_histories.specs.PageMap.{first_live_in, live_in, row_at}
+use Rattle.ssd_histories.specs.Ranges.{has_row}
 use Rattle.ssd_geo.specs.declared.base.BlockBase.{BlockBase}
 use Rattle.ssd_geo.specs.declared.kind.Kind.{Kind}
 use Rattle.ssd_geo.specs.declared.look.Look.{Look}
@@ -26,28 +26,28 @@ NamesFirstLive rows sb _ = ⊥
 
 -- a look of the victim's first live page is one of the row that names it; elsewhere nothing changes
 abbrev pub LooksLiveIn : TablesState → TablesState → Tag → ℕ → LiveAnswer → Type 0
-LooksLiveIn old new tag sb NotVictim = (victim_of old.blocks ≢ Some sb) × (new ≡ old)
-LooksLiveIn old new tag sb NoneLive = (victim_of old.blocks ≡ Some sb) × (live_in old.rows sb ≡ 0) × (new ≡ old)
+LooksLiveIn old new tag sb NotVictim = (victim_in old.blocks ≢ Some sb) × (new ≡ old)
+LooksLiveIn old new tag sb NoneLive = (victim_in old.blocks ≡ Some sb) × (live_in old.rows sb ≡ 0) × (new ≡ old)
 LooksLiveIn old new tag sb (Found look) =
-    (victim_of old.blocks ≡ Some sb) × (first_live_in old.rows sb ≡ Some look.slot) × (look.row < old.shape.rows)
+    (victim_in old.blocks ≡ Some sb) × (first_live_in old.rows sb ≡ Some look.slot) × (look.row < old.shape.rows)
     × IsTrue (has_row old.shape (row_at old.rows look.row)) × LooksIn old new tag look.row (looks.Found look)
 
 abbrev pub LooksLive : ChannelState → ChannelState → Tag → ℕ → LiveAnswer → Type 0
-LooksLive old new tag sb NotVictim = (victim_of old.blocks ≢ Some sb) × (new ≡ old)
-LooksLive old new tag sb NoneLive = (victim_of old.blocks ≡ Some sb) × (live_in old.rows sb ≡ 0) × (new ≡ old)
+LooksLive old new tag sb NotVictim = (victim_in old.blocks ≢ Some sb) × (new ≡ old)
+LooksLive old new tag sb NoneLive = (victim_in old.blocks ≡ Some sb) × (live_in old.rows sb ≡ 0) × (new ≡ old)
 LooksLive old new tag sb (Found look) =
-    (victim_of old.blocks ≡ Some sb) × (first_live_in old.rows sb ≡ Some look.slot)
+    (victim_in old.blocks ≡ Some sb) × (first_live_in old.rows sb ≡ Some look.slot)
     × LooksAt old new tag look.row (looks.Found look)
 
 -- when each answer to an erase comes: just one of the cases holds
 abbrev pub IsEraseAnswer : List BlockBase → List Row → List (Tag × Look) → ℕ → EraseAnswer → Type 0
-IsEraseAnswer blocks rows looks sb erase.NotVictim = victim_of blocks ≢ Some sb
+IsEraseAnswer blocks rows looks sb erase.NotVictim = victim_in blocks ≢ Some sb
 IsEraseAnswer blocks rows looks sb (erase.Live count) =
-    (victim_of blocks ≡ Some sb) × (count ≡ live_in rows sb) × (0 < count)
+    (victim_in blocks ≡ Some sb) × (count ≡ live_in rows sb) × (0 < count)
 IsEraseAnswer blocks rows looks sb (erase.Pinned count) =
-    (victim_of blocks ≡ Some sb) × (live_in rows sb ≡ 0) × (count ≡ looks_in looks sb) × (0 < count)
+    (victim_in blocks ≡ Some sb) × (live_in rows sb ≡ 0) × (count ≡ looks_in looks sb) × (0 < count)
 IsEraseAnswer blocks rows looks sb erase.Erased =
-    (victim_of blocks ≡ Some sb) × (live_in rows sb ≡ 0) × (looks_in looks sb ≡ 0)
+    (victim_in blocks ≡ Some sb) × (live_in rows sb ≡ 0) × (looks_in looks sb ≡ 0)
 
 -- an erase adds its entry; elsewhere nothing changes
 abbrev pub ErasesIn : TablesState → TablesState → Tag → ℕ → EraseAnswer → Type 0

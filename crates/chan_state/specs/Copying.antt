@@ -1,13 +1,13 @@
 -- What becomes of the page of an open look: is it copied, does it stay for want of room, or has its row changed meanwhile?
 -- A copy goes to the next slot. A look in the victim takes it wherever there is one; any other needs room for a host's page.
 use Rattle.std.specs.Prelude.{ℕ, ◌==◌, ◌≡◌, ◌≢◌, ◌<◌, Bool, true, false, ◌||◌, if◌then◌else◌, IsTrue, IsFalse, List, Option, Some, None, slice_set, ⊤}
-use Rattle.ssd_geo.specs.Blocks.{block_at, has_host_room, is_worn, next_slot_of, victim_of, with_next_used}
+use Rattle.ssd_histories.specs.Blocks.{block_at, blocks_have_room, are_blocks_worn, next_slot_of, victim_in, with_next_used}
 use Rattle.ssd_geo.specs.Coding.{coding_of}
 use Rattle.ssd_geo.specs.Ladder.{recovered}
-use Rattle.ssd_geo.specs.Lawful.{page_looked_at}
-use Rattle.ssd_geo.specs.PageMap.{live_in, names_within, row_at}
-use Rattle.ssd_geo.specs.PastPages.{ladder_of}
-use Rattle.ssd_geo.specs.Start.{Start}
+use Rattle.ssd_histories.specs.Lawful.{page_looked_at}
+use Rattle.ssd_histories.specs.PageMap.{live_in, names_within, row_at}
+use Rattle.ssd_histories.specs.PastPages.{ladder_of}
+use Rattle.ssd_histories.specs.Start.{Start}
 use Rattle.ssd_geo.specs.declared.base.BlockBase.{BlockBase}
 use Rattle.ssd_geo.specs.declared.kind.Kind.{Kind}
 use Rattle.ssd_geo.specs.declared.look.Look.{Look}
@@ -23,18 +23,18 @@ use Rattle.chan_state.specs.declared.answers.MoveAnswer.TheVariants.{Changed, Re
 
 -- whether a look stands in the victim
 abbrev pub is_in_victim : List BlockBase → Look → Bool
-is_in_victim blocks look = elim (victim_of blocks) [ Some victim ↦ victim == look.slot.sb | None ↦ false ]
+is_in_victim blocks look = elim (victim_in blocks) [ Some victim ↦ victim == look.slot.sb | None ↦ false ]
 
 -- the slot for a copy of a look's page, if there is one
 abbrev pub copy_slot_of : List BlockBase → Look → Option Slot
-copy_slot_of blocks look = if has_host_room blocks || is_in_victim blocks look then next_slot_of blocks else None
+copy_slot_of blocks look = if blocks_have_room blocks || is_in_victim blocks look then next_slot_of blocks else None
 
 -- the live pages of the victim, and whether no collection can make room
 abbrev pub live_in_victim : List BlockBase → List Row → ℕ
-live_in_victim blocks rows = elim (victim_of blocks) [ Some sb ↦ live_in rows sb | None ↦ 0 ]
+live_in_victim blocks rows = elim (victim_in blocks) [ Some sb ↦ live_in rows sb | None ↦ 0 ]
 
 abbrev pub is_worn_with : ℕ → List BlockBase → List Row → Bool
-is_worn_with slots blocks rows = is_worn slots blocks (live_in_victim blocks rows)
+is_worn_with slots blocks rows = are_blocks_worn slots blocks (live_in_victim blocks rows)
 
 -- the row of a look is as the look found it
 abbrev pub KeepsPage : List Row → Look → Type 0

@@ -4,6 +4,5 @@ pub mod Collecting
 pub mod Condemning
 pub mod Copying
 pub mod Noting
-pub mod SmallChannel
 pub mod Steps
 pub mod TablesState

@@ -1,8 +1,8 @@
 -- What does a note tell of a channel?
 use Rattle.std.specs.Prelude.{ℕ, ◌≡◌, List, Some, None}
-use Rattle.ssd_geo.specs.Blocks.{count_of_free, victim_of}
-use Rattle.ssd_geo.specs.OpenLooks.{looks_in}
-use Rattle.ssd_geo.specs.Policies.{count_of_candidates, table_of}
+use Rattle.ssd_histories.specs.Blocks.{free_blocks_in, victim_in}
+use Rattle.ssd_histories.specs.OpenLooks.{looks_in}
+use Rattle.ssd_histories.specs.Policies.{count_of_candidates, table_in}
 use Rattle.ssd_geo.specs.Superblock.{slots_of}
 use Rattle.ssd_geo.specs.declared.base.BlockBase.{BlockBase}
 use Rattle.ssd_geo.specs.declared.kind.Kind.{Kind}
@@ -16,16 +16,16 @@ use Rattle.chan_state.specs.declared.answers.Note.{Note}
 
 -- how many open looks stand in the victim: 0 without one
 abbrev pub pins_in_victim : List BlockBase → List (Tag × Look) → ℕ
-pins_in_victim blocks looks = elim (victim_of blocks) [ Some sb ↦ looks_in looks sb | None ↦ 0 ]
+pins_in_victim blocks looks = elim (victim_in blocks) [ Some sb ↦ looks_in looks sb | None ↦ 0 ]
 
 -- the note over superblocks, of so many slots each, rows and open looks
 abbrev pub note_of : ℕ → List BlockBase → List Row → List (Tag × Look) → Note
 note_of slots blocks rows looks = record {
-  free = count_of_free blocks;
-  victim = victim_of blocks;
+  free = free_blocks_in blocks;
+  victim = victim_in blocks;
   live = live_in_victim blocks rows;
   pins = pins_in_victim blocks looks;
-  garbage = count_of_candidates (table_of slots blocks rows looks);
+  garbage = count_of_candidates (table_in slots blocks rows looks);
 }
 
 -- the entry that a note adds

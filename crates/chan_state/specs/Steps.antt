@@ -1,21 +1,21 @@
 -- What does each step of a channel answer, what does it add to the history, and when may it come? A step that isn't made
 -- leaves everything as it was. The room of a history is this project's own: each open look has 256 entries set aside.
 use Rattle.std.specs.Prelude.{ℕ, ◌≡◌, ◌+◌, ◌≤◌, ◌<◌, false, IsTrue, IsFalse, List, ◌∷◌, length, ℤ, Some, Result, IsSome}
-use Rattle.ssd_geo.specs.BlockLaws.{blocks_after}
-use Rattle.ssd_geo.specs.Blocks.{block_at, has_host_room, next_slot_of}
+use Rattle.ssd_histories.specs.BlockLaws.{blocks_after}
+use Rattle.ssd_histories.specs.Blocks.{block_at, blocks_have_room, next_slot_of}
 use Rattle.ssd_geo.specs.Cells.{IsCellLaw}
 use Rattle.ssd_geo.specs.Coding.{coding_of}
-use Rattle.ssd_geo.specs.History.{look_by, looks_after}
-use Rattle.ssd_geo.specs.HistoryLaws.{rows_after}
+use Rattle.ssd_histories.specs.History.{look_by, looks_after}
+use Rattle.ssd_histories.specs.HistoryLaws.{rows_after}
 use Rattle.ssd_geo.specs.Ladder.{asks, has_answer}
-use Rattle.ssd_geo.specs.Lawful.{has_fault_sense}
-use Rattle.ssd_geo.specs.OpenLooks.{look_at}
-use Rattle.ssd_geo.specs.PageMap.{row_at}
-use Rattle.ssd_geo.specs.PastPages.{ladder_of, sense_of}
-use Rattle.ssd_geo.specs.PastRows.{row_change, serial_of}
-use Rattle.ssd_geo.specs.Ranges.{has_slot}
-use Rattle.ssd_geo.specs.SerialCalls.{entry_of}
-use Rattle.ssd_geo.specs.Start.{Start, data_of}
+use Rattle.ssd_histories.specs.Lawful.{has_fault_sense}
+use Rattle.ssd_histories.specs.OpenLooks.{look_at}
+use Rattle.ssd_histories.specs.PageMap.{row_at}
+use Rattle.ssd_histories.specs.PastPages.{ladder_of, sense_of}
+use Rattle.ssd_histories.specs.PastRows.{row_change, serial_of}
+use Rattle.ssd_histories.specs.Ranges.{has_slot}
+use Rattle.ssd_histories.specs.SerialCalls.{entry_of}
+use Rattle.ssd_histories.specs.Start.{Start, data_of}
 use Rattle.ssd_geo.specs.Superblock.{slots_of}
 use Rattle.ssd_geo.specs.declared.cell_law.CellLaw.{CellLaw}
 use Rattle.ssd_geo.specs.declared.kind.Kind.{Kind}
@@ -150,8 +150,8 @@ WritesFor old new tag row word =
 -- a write goes to the next slot where the host has room, and else asks for room and changes nothing
 abbrev pub Writes : ChannelState → ChannelState → Tag → ℕ → WriteAnswer → Type 0
 Writes old new tag row (Written slot) =
-    IsTrue (has_host_room old.blocks) × (next_slot_of old.blocks ≡ Some slot) × AddsEntry old new tag (Kind.Write row slot)
-Writes old new tag row NeedRoom = IsFalse (has_host_room old.blocks) × (new ≡ old)
+    IsTrue (blocks_have_room old.blocks) × (next_slot_of old.blocks ≡ Some slot) × AddsEntry old new tag (Kind.Write row slot)
+Writes old new tag row NeedRoom = IsFalse (blocks_have_room old.blocks) × (new ≡ old)
 
 -- a write programs its word, with the noise of its page and of the erases of its superblock
 abbrev pub Programs : ChannelState → ChannelState → List ℕ → WriteAnswer → Type 0

@@ -4,16 +4,16 @@ use Rattle.std.specs.Prelude.{ℕ, ◌≡◌, ◌+◌, ◌-◌, ◌*◌, ◌^◌
 use Rattle.std.specs.List.{list_any}
 use Rattle.allocator.specs.Superblocks.{Superblocks}
 use Rattle.map_rows.specs.PageMap.{PageMap}
-use Rattle.ssd_geo.specs.BlockLaws.{blocks_after}
-use Rattle.ssd_geo.specs.Blocks.{block_at, has_host_room, next_slot_of}
-use Rattle.ssd_geo.specs.CallSteps.{is_sense_of}
-use Rattle.ssd_geo.specs.Copies.{is_after_recovered, is_after_uncorrectable}
-use Rattle.ssd_geo.specs.History.{looks_after, open_looks}
-use Rattle.ssd_geo.specs.HistoryLaws.{rows_after}
-use Rattle.ssd_geo.specs.PageMap.{NameApart, NameWithin, row_at}
-use Rattle.ssd_geo.specs.PastRows.{row_change}
-use Rattle.ssd_geo.specs.Ranges.{has_slot}
-use Rattle.ssd_geo.specs.SerialCalls.{entry_of}
+use Rattle.ssd_histories.specs.BlockLaws.{blocks_after}
+use Rattle.ssd_histories.specs.Blocks.{block_at, blocks_have_room, next_slot_of}
+use Rattle.ssd_histories.specs.CallSteps.{is_sense_of}
+use Rattle.ssd_histories.specs.Copies.{is_after_recovered, is_after_uncorrectable}
+use Rattle.ssd_histories.specs.History.{looks_after, open_looks}
+use Rattle.ssd_histories.specs.HistoryLaws.{rows_after}
+use Rattle.ssd_histories.specs.PageMap.{NameApart, NameWithin, row_at}
+use Rattle.ssd_histories.specs.PastRows.{row_change}
+use Rattle.ssd_histories.specs.Ranges.{has_slot}
+use Rattle.ssd_histories.specs.SerialCalls.{entry_of}
 use Rattle.ssd_geo.specs.Stripe.{is_closed, stripe_of_index}
 use Rattle.ssd_geo.specs.Superblock.{slots_of}
 use Rattle.ssd_geo.specs.declared.base.BlockBase.{BlockBase}
@@ -99,14 +99,14 @@ pub record LooksIn (old new : TablesState) (tag : Tag) (row : ℕ) (answer : Loo
 
 -- a write takes the next slot where the host has room, and else changes nothing
 pub record WritesIn (old new : TablesState) (tag : Tag) (row : ℕ) (slot : Slot) : Type 0 where
-  pub has_room : IsTrue (has_host_room old.blocks)
+  pub has_room : IsTrue (blocks_have_room old.blocks)
   pub is_next : next_slot_of old.blocks ≡ Some slot
   pub in_range : IsTrue (has_slot old.shape slot)
   pub new_is : new ≡ tables_after old tag (Kind.Write row slot)
 
 abbrev pub WritesTables : TablesState → TablesState → Tag → ℕ → WriteAnswer → Type 0
 WritesTables old new tag row (Written slot) = WritesIn old new tag row slot
-WritesTables old new tag row NeedRoom = IsFalse (has_host_room old.blocks) × (new ≡ old)
+WritesTables old new tag row NeedRoom = IsFalse (blocks_have_room old.blocks) × (new ≡ old)
 
 -- how many senses a look that began at a position has had
 abbrev pub senses_had : List Entry → ℕ → ℕ

@@ -2,7 +2,7 @@ ghost use Rattle.std.specs.Prelude.{◌≡◌, ℕ, ◌*◌, ◌<◌, [], IfOk, 
 ghost use Rattle.ssd_geo.specs.Cells.{IsCellLaw, aged_level, sensed};
 ghost use Rattle.ssd_geo.specs.Coding.{word_bytes_in};
 ghost use Rattle.ssd_geo.specs.Noise.{number_of_page};
-ghost use Rattle.ssd_geo.specs.Ranges.{has_place};
+ghost use Rattle.ssd_histories.specs.Ranges.{has_place};
 ghost use Rattle.ssd_geo.specs.Stripe.{is_last_of_stripe, place_of_parity, stripe_of_index};
 ghost use Rattle.ssd_geo.specs.Superblock.{slots_of};
 ghost use Rattle.chan_state.specs.CellsState.{pages_after_erase, pages_after_program};
@@ -13,9 +13,6 @@ use die_parity::StripeSum;
 use ssd_geo::{CellLaw, Memory, Place, Shape, Slot};
 use std::alloc::Global;
 use std::marker::Model;
-
-#[cfg(test)]
-mod tests;
 
 /// The levels of all pages of a channel, die by die and block by block, and the running sum of its open stripe. All memory is
 /// taken at the beginning.

@@ -2,9 +2,9 @@
 ghost use Rattle.std.specs.Prelude.{◌≡◌, ◌<◌, IfOk, IsTrue, OnErr, OnOk, length};
 ghost use Rattle.ssd_geo.specs.Cells.{sensed};
 ghost use Rattle.ssd_geo.specs.Coding.{word_bytes_in};
-ghost use Rattle.ssd_geo.specs.History.{history_of};
-ghost use Rattle.ssd_geo.specs.OpenLooks.{without_look};
-ghost use Rattle.ssd_geo.specs.Ranges.{has_place};
+ghost use Rattle.ssd_histories.specs.History.{history_of};
+ghost use Rattle.ssd_histories.specs.OpenLooks.{without_look};
+ghost use Rattle.ssd_histories.specs.Ranges.{has_place};
 ghost use Rattle.ssd_geo.specs.declared.kind.Kind.{Kind};
 
 use crate::cells::Cells;
@@ -16,9 +16,6 @@ use std::marker::Model;
 
 mod collecting;
 mod moving;
-#[cfg(test)]
-mod tests;
-
 /// A channel. Contracts see by a relation for which starts and contents it stands: it keeps neither.
 #[derive(Drop)]
 pub struct Channel {

@@ -1,6 +1,6 @@
 // The history of a channel, with the memory for entries that are to come.
 ghost use Rattle.std.specs.Prelude.{◌≡◌, ◌+◌, ◌^◌, ◌<◌, ◌≤◌, ◌∷◌, [], OnOk, length};
-ghost use Rattle.ssd_geo.specs.History.{history_of};
+ghost use Rattle.ssd_histories.specs.History.{history_of};
 ghost use Rattle.chan_state.specs.TablesState.{IsStopped};
 
 use ssd_geo::{Entry, Items, Memory, StepStop};
@@ -16,7 +16,7 @@ pub(crate) struct History {
 
 impl Model for History {
     ghost use Rattle.std.specs.Prelude.{◌≤◌, ◌<◌, ◌^◌, length, vec_capacity};
-    ghost use Rattle.ssd_geo.specs.History.{past_of};
+    ghost use Rattle.ssd_histories.specs.History.{past_of};
     ghost use Rattle.chan_state.specs.TablesState.{HistoryState};
 
     ghost Value = { HistoryState };

@@ -1,11 +1,11 @@
 // The tables of a channel: its page map, its superblocks, its open looks and its history.
 ghost use Rattle.std.specs.Prelude.{◌≡◌, ℕ, ◌+◌, ◌^◌, ◌<◌, ◌≤◌, ◌↔◌, ◌++◌, ◌∷◌, [], All, IfErr, IfOk, IfSome, IsSome, IsTrue, None, OnErr, OnOk, length, replicate, if◌then◌else◌};
-ghost use Rattle.ssd_geo.specs.Blocks.{AreSound, block_at, has_any_room, has_host_room, next_slot_of};
-ghost use Rattle.ssd_geo.specs.History.{history_of};
-ghost use Rattle.ssd_geo.specs.OpenLooks.{look_at};
+ghost use Rattle.ssd_histories.specs.Blocks.{AreSound, block_at, has_any_room, blocks_have_room, next_slot_of};
+ghost use Rattle.ssd_histories.specs.History.{history_of};
+ghost use Rattle.ssd_histories.specs.OpenLooks.{look_at};
 ghost use Rattle.ssd_geo.specs.PageHead.{serial_of_call};
-ghost use Rattle.ssd_geo.specs.PageMap.{names_within, row_at};
-ghost use Rattle.ssd_geo.specs.Ranges.{has_row};
+ghost use Rattle.ssd_histories.specs.PageMap.{names_within, row_at};
+ghost use Rattle.ssd_histories.specs.Ranges.{has_row};
 ghost use Rattle.ssd_geo.specs.Superblock.{slots_of};
 ghost use Rattle.ssd_geo.specs.Stripe.{is_closed, stripe_of_index};
 ghost use Rattle.ssd_geo.specs.declared.row.Row.TheVariants.{Empty};
@@ -295,9 +295,9 @@ fn pinned(looks: &mut Pins, tag: Tag, look: Look) -> Result<(), StepStop>
 
 // The next slot, where the host has room.
 fn host_slot(blocks: &Blocks) -> Option<Slot>
-    ensures slot { result ≡ (if has_host_room blocks.now.blocks then next_slot_of blocks.now.blocks else None) }
+    ensures slot { result ≡ (if blocks_have_room blocks.now.blocks then next_slot_of blocks.now.blocks else None) }
     ensures next { IfSome result (λ slot. next_slot_of blocks.now.blocks ≡ Some slot) }
-    ensures room { IsSome result ↔ IsTrue (has_host_room blocks.now.blocks) }
+    ensures room { IsSome result ↔ IsTrue (blocks_have_room blocks.now.blocks) }
     ensures any { IsSome result → IsTrue (has_any_room blocks.now.blocks) }
     ensures in_range { IfSome result (λ slot. (slot.sb < length blocks.now.blocks) × (slot.index < blocks.now.slots)) }
     ensures sound { IsSome result → AreSound blocks.now.slots blocks.now.blocks }

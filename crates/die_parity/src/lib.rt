@@ -2,7 +2,5 @@
 #![tactic(auto)]
 
 mod stripe_sum;
-#[cfg(test)]
-mod tests;
 
 pub use stripe_sum::StripeSum;

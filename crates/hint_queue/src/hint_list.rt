@@ -1,5 +1,5 @@
 ghost use Rattle.std.specs.Prelude.{◌≡◌, ◌≤◌, [], ◌∷◌, ◌++◌, length, nat_lt, IfOk, MatchOption, if◌then◌else◌};
-ghost use Rattle.ssd_geo.specs.SerialHistory.{most_hints};
+ghost use Rattle.ssd_histories.specs.SerialHistory.{most_hints};
 
 use ssd_geo::Memory;
 use std::alloc::Global;
@@ -19,7 +19,7 @@ pub struct HintList {
 impl Model for HintList {
     ghost use Rattle.std.specs.Prelude.{ℕ, ◌≤◌, List};
     ghost use Rattle.std.specs.VecDeque.{deque_len, deque_capacity};
-    ghost use Rattle.ssd_geo.specs.SerialHistory.{most_hints};
+    ghost use Rattle.ssd_histories.specs.SerialHistory.{most_hints};
 
     ghost Value = { List ℕ };
 

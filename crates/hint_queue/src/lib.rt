@@ -3,7 +3,5 @@
 #![tactic(auto)]
 
 mod hint_list;
-#[cfg(test)]
-mod tests;
 
 pub use hint_list::HintList;

@@ -9,8 +9,8 @@ use Rattle.std.proofs.lemmas.List.FromFn.{length-map-range_with_len, get_or-map-
 use Rattle.std.proofs.lemmas.Nat.{mod_below, row_fits}
 use Rattle.ssd_bits.proofs.Words.{bit_sum-false}
 use Rattle.ssd_geo.specs.Bits.{bit_sum, bits_sum, rotated, total_bits, zero_bits}
-use Rattle.ssd_geo.specs.BaseMatrix.{BaseMatrix, block_of, entry_at, message_columns, parity_entry}
-use Rattle.ssd_geo.specs.Codewords.{block_at, first_parity, message_sum, parity_block, shift_of}
+use Rattle.ssd_geo.specs.BaseMatrix.{BaseMatrix, block_of_entry, entry_at, message_columns, parity_entry}
+use Rattle.ssd_geo.specs.Codewords.{bits_of_block, first_parity, message_sum, parity_block, shift_of}
 use Rattle.ldpc_encode.proofs.Sums.{at_entry, sum_over}
 
 pub length-bits_sum : (xs ys : List Bool) → length xs ≡ length ys → length (bits_sum xs ys) ≡ length xs
@@ -42,37 +42,37 @@ get_or-rotated s bits z r long h =
     get_or-map-range_with_len (λ r. slice_index_or bits ((r + s) % length bits) false) 0 (length bits) r r false (omega arith) (omega arith)
     ∙ ap (λ (n : ℕ). get_or bits ((r + s) % n) false) long
 
-pub length-block_at : (z : ℕ) (bits : List Bool) (j : ℕ) → j * z + z ≤ length bits → length (block_at z bits j) ≡ z
+pub length-block_at : (z : ℕ) (bits : List Bool) (j : ℕ) → j * z + z ≤ length bits → length (bits_of_block z bits j) ≡ z
 length-block_at z bits j room =
     let rest : length (drop (j * z) bits) ≡ length bits - j * z = length-drop (j * z) bits in
     length-take-le z (drop (j * z) bits) (omega arith)
 
-pub get_or-block_at : (z : ℕ) (bits : List Bool) (j k : ℕ) → k < z → get_or (block_at z bits j) k false ≡ get_or bits (j * z + k) false
+pub get_or-block_at : (z : ℕ) (bits : List Bool) (j k : ℕ) → k < z → get_or (bits_of_block z bits j) k false ≡ get_or bits (j * z + k) false
 get_or-block_at z bits j k h = get_or-take z (drop (j * z) bits) k false h ∙ get_or-drop (j * z) bits k false
 
 -- a message block, turned
 abbrev pub turned_block : ℕ → List Bool → ℕ × ℕ → List Bool
-turned_block z bits block = rotated (block.1) (block_at z bits (block.0))
+turned_block z bits block = rotated (block.1) (bits_of_block z bits (block.0))
 
 -- the bit that row r has of a block
 abbrev pub row_bit : ℕ → ℕ → List Bool → ℕ × ℕ → Bool
 row_bit z r bits block = slice_index_or bits (block.0 * z + (r + block.1) % z) false
 
 length-turned : (z : ℕ) (bits : List Bool) (block : ℕ × ℕ) → block.0 * z + z ≤ length bits → length (turned_block z bits block) ≡ z
-length-turned z bits block room = length-rotated (block.1) (block_at z bits (block.0)) ∙ length-block_at z bits (block.0) room
+length-turned z bits block room = length-rotated (block.1) (bits_of_block z bits (block.0)) ∙ length-block_at z bits (block.0) room
 
 get_or-turned : (z r : ℕ) (bits : List Bool) (block : ℕ × ℕ) → block.0 * z + z ≤ length bits → r < z → get_or (turned_block z bits block) r false ≡ row_bit z r bits block
 get_or-turned z r bits block room low =
-    get_or-rotated (block.1) (block_at z bits (block.0)) z r (length-block_at z bits (block.0) room) low
+    get_or-rotated (block.1) (bits_of_block z bits (block.0)) z r (length-block_at z bits (block.0) room) low
     ∙ get_or-block_at z bits (block.0) ((r + block.1) % z) (mod_below (r + block.1) z (omega arith))
 
 -- the blocks of some columns, turned and added
 module _ (z : ℕ) (bits : List Bool) (entry : ℕ → ℤ) where
   abbrev pub columns_total : ℕ → ℕ → List Bool
-  columns_total a n = total_bits z (map (turned_block z bits) (filter_map (λ column. block_of column (entry column)) (range_with_len a n)))
+  columns_total a n = total_bits z (map (turned_block z bits) (filter_map (λ column. block_of_entry column (entry column)) (range_with_len a n)))
 
   one-length : (a : ℕ) (e : ℤ) (blocks : List (ℕ × ℕ)) → a * z + z ≤ length bits → length (total_bits z (map (turned_block z bits) blocks)) ≡ z
-      → length (total_bits z (map (turned_block z bits) (cons_option (block_of a e) blocks))) ≡ z
+      → length (total_bits z (map (turned_block z bits) (cons_option (block_of_entry a e) blocks))) ≡ z
   one-length a (pos s) blocks room rest =
       length-bits_sum (turned_block z bits (a, s)) (total_bits z (map (turned_block z bits) blocks)) (length-turned z bits (a, s) room ∙ sym rest)
       ∙ length-turned z bits (a, s) room
@@ -81,12 +81,12 @@ module _ (z : ℕ) (bits : List Bool) (entry : ℕ → ℤ) where
   pub length-columns_total : (a n : ℕ) → ((j : ℕ) → a ≤ j → j < a + n → j * z + z ≤ length bits) → length (columns_total a n) ≡ z
   length-columns_total a zero room = length-zero_bits z
   length-columns_total a (suc n) room =
-      one-length a (entry a) (filter_map (λ column. block_of column (entry column)) (range_with_len (a + 1) n)) (room a (omega arith) (omega arith))
+      one-length a (entry a) (filter_map (λ column. block_of_entry column (entry column)) (range_with_len (a + 1) n)) (room a (omega arith) (omega arith))
       (length-columns_total (a + 1) n (λ j low high. room j (omega arith) (omega arith)))
 
   one-bit : (r a : ℕ) (e : ℤ) (blocks : List (ℕ × ℕ)) (rest : Bool) → r < z → a * z + z ≤ length bits → length (total_bits z (map (turned_block z bits) blocks)) ≡ z
       → get_or (total_bits z (map (turned_block z bits) blocks)) r false ≡ rest
-      → get_or (total_bits z (map (turned_block z bits) (cons_option (block_of a e) blocks))) r false ≡ bit_sum (at_entry (row_bit z r bits) a e) rest
+      → get_or (total_bits z (map (turned_block z bits) (cons_option (block_of_entry a e) blocks))) r false ≡ bit_sum (at_entry (row_bit z r bits) a e) rest
   one-bit r a (pos s) blocks rest low room long same =
       get_or-bits_sum (turned_block z bits (a, s)) (total_bits z (map (turned_block z bits) blocks)) r (length-turned z bits (a, s) room ∙ sym long)
       ∙ ap (λ (b : Bool). bit_sum b (get_or (total_bits z (map (turned_block z bits) blocks)) r false)) (get_or-turned z r bits (a, s) room low)
@@ -97,7 +97,7 @@ module _ (z : ℕ) (bits : List Bool) (entry : ℕ → ℤ) where
       → get_or (columns_total a n) r false ≡ sum_over (λ j. at_entry (row_bit z r bits) j (entry j)) a n
   get_or-columns_total r a zero low room = get_or-zero_bits z r
   get_or-columns_total r a (suc n) low room =
-      one-bit r a (entry a) (filter_map (λ column. block_of column (entry column)) (range_with_len (a + 1) n))
+      one-bit r a (entry a) (filter_map (λ column. block_of_entry column (entry column)) (range_with_len (a + 1) n))
       (sum_over (λ j. at_entry (row_bit z r bits) j (entry j)) (a + 1) n) low (room a (omega arith) (omega arith))
       (length-columns_total (a + 1) n (λ j from to. room j (omega arith) (omega arith)))
       (get_or-columns_total r (a + 1) n low (λ j from to. room j (omega arith) (omega arith)))
@@ -108,13 +108,13 @@ module _ (kb : ℕ) (entry : ℕ → ℤ) where
   is_low block = nat_lt (block.0) kb
 
   abbrev pub columns_from : ℕ → ℕ → List (ℕ × ℕ)
-  columns_from a n = filter_map (λ column. block_of column (entry column)) (range_with_len a n)
+  columns_from a n = filter_map (λ column. block_of_entry column (entry column)) (range_with_len a n)
 
-  kept : (a : ℕ) (e : ℤ) (blocks : List (ℕ × ℕ)) → a < kb → filter is_low (cons_option (block_of a e) blocks) ≡ cons_option (block_of a e) (filter is_low blocks)
+  kept : (a : ℕ) (e : ℤ) (blocks : List (ℕ × ℕ)) → a < kb → filter is_low (cons_option (block_of_entry a e) blocks) ≡ cons_option (block_of_entry a e) (filter is_low blocks)
   kept a (pos s) blocks low = ap (λ (b : Bool). cond b ((a, s) ∷ filter is_low blocks) (filter is_low blocks)) (lt-ltb a kb low)
   kept a (negsuc n) blocks low = refl
 
-  lost : (a : ℕ) (e : ℤ) (blocks : List (ℕ × ℕ)) → kb ≤ a → filter is_low (cons_option (block_of a e) blocks) ≡ filter is_low blocks
+  lost : (a : ℕ) (e : ℤ) (blocks : List (ℕ × ℕ)) → kb ≤ a → filter is_low (cons_option (block_of_entry a e) blocks) ≡ filter is_low blocks
   lost a (pos s) blocks high = ap (λ (b : Bool). cond b ((a, s) ∷ filter is_low blocks) (filter is_low blocks)) (le-ltb a kb high)
   lost a (negsuc n) blocks high = refl
 
@@ -130,7 +130,7 @@ module _ (kb : ℕ) (entry : ℕ → ℤ) where
       let more : suc n + k ≡ suc (n + k) = omega arith in
       rw more
       (kept a (entry a) (columns_from (a + 1) (n + k)) (omega arith)
-      ∙ ap (cons_option (block_of a (entry a))) (low-columns (a + 1) n k (omega arith)))
+      ∙ ap (cons_option (block_of_entry a (entry a))) (low-columns (a + 1) n k (omega arith)))
 
 -- a message of the matrix's message columns
 module _ (m : BaseMatrix) (u : List Bool) (columns : message_columns m + m.mb ≡ m.nb) (whole : length u ≡ message_columns m * m.z) (positive : 0 < m.z) where

@@ -9,7 +9,7 @@ use Rattle.std.proofs.Math.Nat.{mul_comm}
 use Rattle.std.proofs.lemmas.Bool.{ltb-true, eqb-true, not-false, or_parts, cond-true, cond-false, eq-eqb, ne_eqb, cases_eq, cases_Bool}
 use Rattle.std.proofs.lemmas.Nat.{div-mul-add, mod-mul-add, mul-add-lt}
 use Rattle.ssd_geo.specs.Bits.{bit_sum}
-use Rattle.ssd_geo.specs.BaseMatrix.{BaseMatrix, IsAccepted, breaks_parity_column, diagonal, diagonal_entry, entry_at, has_middle_before, is_in_range, layer_of, message_columns, parity_column, parity_entry, zero_block}
+use Rattle.ssd_geo.specs.BaseMatrix.{BaseMatrix, IsAccepted, breaks_parity_column, diagonal, diagonal_entry, entry_at, has_middle_before, is_entry_in_range, layer_of, message_columns, parity_column, parity_entry, zero_block}
 use Rattle.ssd_geo.specs.Codewords.{shift_of}
 use Rattle.qc_matrix.proofs.Accepted.{entry-in_range, no-column_fault, no-diagonal_fault, none-mapped}
 use Rattle.qc_matrix.proofs.Find.{none-find}
@@ -25,12 +25,12 @@ int-apart x y apart = elim (cases_Bool (int_eq x y)) [ inl same ↦ absurd (apar
 not-zero : (n : ℕ) → int_eq (pos (suc n)) (pos 0) ≡ false
 not-zero n = int-apart (pos (suc n)) (pos 0) (λ same. let e : suc n ≡ 0 = ap shift_of same in omega arith)
 
-shifted : (z : ℕ) (e : ℤ) → is_in_range z e ≡ true → int_eq e zero_block ≡ false → e ≡ pos (shift_of e)
+shifted : (z : ℕ) (e : ℤ) → is_entry_in_range z e ≡ true → int_eq e zero_block ≡ false → e ≡ pos (shift_of e)
 shifted z (pos s) inside other = refl
 shifted z (negsuc zero) inside other = absurd (let e : true ≡ false = other in cc)
 shifted z (negsuc (suc n)) inside other = absurd (let e : suc n ≡ 0 = eqb-true (suc n) 0 inside in omega arith)
 
-shift-below : (z : ℕ) (e : ℤ) → is_in_range z e ≡ true → 0 < z → shift_of e < z
+shift-below : (z : ℕ) (e : ℤ) → is_entry_in_range z e ≡ true → 0 < z → shift_of e < z
 shift-below z (pos s) inside positive = ltb-true s z inside
 shift-below z (negsuc n) inside positive = positive
 

@@ -5,7 +5,7 @@ use Rattle.std.specs.List.{range_with_len, cons_option}
 use Rattle.std.proofs.lemmas.List.{take_more}
 use Rattle.std.proofs.lemmas.Bool.{cases_eq, eq-eqb, ne_eqb}
 use Rattle.ssd_geo.specs.Bits.{bit_sum}
-use Rattle.ssd_geo.specs.BaseMatrix.{block_of}
+use Rattle.ssd_geo.specs.BaseMatrix.{block_of_entry}
 use Rattle.ssd_geo.specs.Codewords.{is_odd_sum}
 use Rattle.ssd_geo.specs.Layer.{variable_of, variables_of}
 use Rattle.qc_matrix.proofs.OddSums.{bit_sum-assoc, bit_sum_comm}
@@ -116,15 +116,15 @@ at_entry f column (pos shift) = f (column, shift)
 at_entry f column (negsuc n) = false
 
 first-column : (f : ℕ × ℕ → Bool) (entry : ℕ → ℤ) (a n : ℕ) (e : ℤ)
-    → sum_blocks f (filter_map (λ column. block_of column (entry column)) (range_with_len (a + 1) n)) ≡ sum_over (λ column. at_entry f column (entry column)) (a + 1) n
-    → sum_blocks f (cons_option (block_of a e) (filter_map (λ column. block_of column (entry column)) (range_with_len (a + 1) n)))
+    → sum_blocks f (filter_map (λ column. block_of_entry column (entry column)) (range_with_len (a + 1) n)) ≡ sum_over (λ column. at_entry f column (entry column)) (a + 1) n
+    → sum_blocks f (cons_option (block_of_entry a e) (filter_map (λ column. block_of_entry column (entry column)) (range_with_len (a + 1) n)))
     ≡ bit_sum (at_entry f a e) (sum_over (λ column. at_entry f column (entry column)) (a + 1) n)
 first-column f entry a n (pos shift) rest = ap (bit_sum (f (a, shift))) rest
 first-column f entry a n (negsuc k) rest = rest
 
 -- a sum over the blocks of a row is one over its columns
 pub sum_blocks-columns : (f : ℕ × ℕ → Bool) (entry : ℕ → ℤ) (a n : ℕ)
-    → sum_blocks f (filter_map (λ column. block_of column (entry column)) (range_with_len a n)) ≡ sum_over (λ column. at_entry f column (entry column)) a n
+    → sum_blocks f (filter_map (λ column. block_of_entry column (entry column)) (range_with_len a n)) ≡ sum_over (λ column. at_entry f column (entry column)) a n
 sum_blocks-columns f entry a zero = refl
 sum_blocks-columns f entry a (suc n) = first-column f entry a n (entry a) (sum_blocks-columns f entry (a + 1) n)
 

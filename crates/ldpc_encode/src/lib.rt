@@ -8,6 +8,3 @@ mod parity;
 
 pub use encode::encode_into;
 pub use laws::word_laws;
-
-#[cfg(test)]
-mod tests;

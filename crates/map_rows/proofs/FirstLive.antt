@@ -4,7 +4,7 @@ use Rattle.std.specs.Prelude.{IsNone, IsSome, filter_map, fold, nat_lt, option_m
 use Rattle.std.specs.List.{cons_option}
 use Rattle.std.proofs.lemmas.Bool.{and_parts, and_from, cases_eq, eq-eqb, eqb-true, ltb-true}
 use Rattle.std.proofs.lemmas.List.Sums.{sum_by-cons}
-use Rattle.ssd_geo.specs.PageMap.{first_live_in, index_in, index_when, least_of, live_in, NameApart, names_slot, names_superblock, names_within, NameWithin, owner_of, row_at, slot_at}
+use Rattle.ssd_histories.specs.PageMap.{first_live_in, index_in, index_when, least_of, live_in, NameApart, names_slot, names_superblock, names_within, NameWithin, owner_of, row_at, slot_at}
 use Rattle.ssd_geo.specs.declared.row.Row.{Row}
 use Rattle.ssd_geo.specs.declared.row.Row.TheVariants.{Empty, Lost, Page}
 use Rattle.ssd_geo.specs.declared.slot.Slot.{Slot}

@@ -4,7 +4,7 @@ use Rattle.std.specs.Prelude.{filter_map, min, unwrap_or, option_to_list}
 use Rattle.std.specs.List.{cons_option}
 use Rattle.std.proofs.lemmas.List.Sums.{fold-append}
 use Rattle.std.proofs.lemmas.List.{take_more, append-nil}
-use Rattle.ssd_geo.specs.PageMap.{least_of}
+use Rattle.ssd_histories.specs.PageMap.{least_of}
 
 -- the least so far, and the index of one more row, where it has one
 abbrev pub least_with : Option ℕ → Option ℕ → Option ℕ

@@ -2,7 +2,7 @@
 use Rattle.std.proofs.Common.{◌≡◌, ℕ, zero, suc, [], ◌∷◌, ◌<◌, List, length, Some, Bool, true, false, refl, arith, IsTrue}
 use Rattle.std.specs.List.{position, position_or_len}
 use Rattle.std.proofs.lemmas.List.Sums.{position_or_len_is}
-use Rattle.ssd_geo.specs.PageMap.{NameApart, names_slot, owner_of, row_at}
+use Rattle.ssd_histories.specs.PageMap.{NameApart, names_slot, owner_of, row_at}
 use Rattle.ssd_geo.specs.declared.row.Row.{Row}
 use Rattle.ssd_geo.specs.declared.row.Row.TheVariants.{Empty}
 use Rattle.ssd_geo.specs.declared.slot.Slot.{Slot}

@@ -2,7 +2,7 @@
 use Rattle.std.proofs.Common.{◌≡◌, ℕ, ◌<◌, ◌⊎◌, inl, inr, List, length, set, true, IsTrue, sym, ◌∙◌, subst, ap, ◌==◌}
 use Rattle.std.proofs.lemmas.Bool.{and_parts, cases_eq, eqb-true}
 use Rattle.std.proofs.lemmas.List.{get_or-set_same, get_or-set_other}
-use Rattle.ssd_geo.specs.PageMap.{is_slot, names_slot, names_within, NameApart, NameWithin, NoOtherNames, row_at, slot_at}
+use Rattle.ssd_histories.specs.PageMap.{is_slot, names_slot, names_within, NameApart, NameWithin, NoOtherNames, row_at, slot_at}
 use Rattle.ssd_geo.specs.declared.row.Row.{Row}
 use Rattle.ssd_geo.specs.declared.row.Row.TheVariants.{Empty, Lost, Page}
 use Rattle.ssd_geo.specs.declared.slot.Slot.{Slot}

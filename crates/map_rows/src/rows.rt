@@ -1,5 +1,5 @@
 ghost use Rattle.std.specs.Prelude.{◌≡◌, ℕ, ◌<◌, ◌↔◌, IfOk, IfSome, IsNone, IsSome, IsTrue, Some, filter_map, length, min, replicate, slice_set, unwrap_or};
-ghost use Rattle.ssd_geo.specs.PageMap.{first_live_in, index_in, least_of, live_in, names_slot, names_superblock, names_within, NoOtherNames, owner_of, row_at};
+ghost use Rattle.ssd_histories.specs.PageMap.{first_live_in, index_in, least_of, live_in, names_slot, names_superblock, names_within, NoOtherNames, owner_of, row_at};
 ghost use Rattle.ssd_geo.specs.declared.row.Row.TheVariants.{Empty};
 
 use ssd_geo::{Memory, Row, Slot};
@@ -17,7 +17,7 @@ pub struct Rows {
 impl Model for Rows {
     ghost use Rattle.std.specs.Prelude.{◌<◌, ◌^◌, length};
     ghost use Rattle.map_rows.specs.PageMap.{PageMap};
-    ghost use Rattle.ssd_geo.specs.PageMap.{NameApart, NameWithin};
+    ghost use Rattle.ssd_histories.specs.PageMap.{NameApart, NameWithin};
 
     ghost Value = { PageMap };
 

@@ -3,7 +3,5 @@
 #![tactic(auto)]
 
 mod payload;
-#[cfg(test)]
-mod tests;
 
 pub use payload::{payload_into, payload_of};

@@ -4,7 +4,7 @@ use Rattle.std.proofs.Math.Seq.{drop-cons}
 use Rattle.std.proofs.lemmas.Bool.Decides.{nat_tests}
 use Rattle.std.specs.List.{list_all}
 use Rattle.std.proofs.lemmas.List.Folds.{list_all_at}
-use Rattle.ssd_geo.specs.Standing.{is_level}
+use Rattle.ssd_geo.specs.Limits.{is_level}
 use Rattle.ssd_geo.specs.Coding.{Coding}
 use Rattle.ssd_geo.specs.Ladder.{accepted}
 use Rattle.retry_ladder.specs.Running.{PlaceRun, better, center_of, finds, goes_on, hard_fed, misses, place_fed, soft_fed}

@@ -6,8 +6,7 @@ use Rattle.std.specs.Prelude.{ℕ, ◌≡◌, ◌+◌, nat_lt, Bool, true, false
 use Rattle.std.specs.List.{fold}
 use Rattle.ssd_geo.specs.Bits.{bytes_sum}
 use Rattle.ssd_geo.specs.Coding.{Coding}
-use Rattle.ssd_geo.specs.Ladder.{LadderState, asks, recovered, uncorrectable, accepted, other_places, soft_levels}
-use Rattle.ssd_geo.specs.PastPages.{ladder_over}
+use Rattle.ssd_geo.specs.Ladder.{LadderState, asks, recovered, uncorrectable, accepted, other_places, soft_levels, ladder_over}
 use Rattle.ssd_geo.specs.Stripe.{place_of_slot}
 use Rattle.ssd_geo.specs.StripeSum.{zero_word}
 use Rattle.ssd_geo.specs.declared.look.Look.{Look}

@@ -6,8 +6,7 @@ use Rattle.std.specs.Prelude.{ℕ, ◌≡◌, ◌+◌, ◌-◌, ◌<◌, ◌==�
 use Rattle.std.specs.List.{range_with_len}
 use Rattle.ssd_geo.specs.BaseMatrix.{BaseMatrix}
 use Rattle.ssd_geo.specs.Coding.{Coding}
-use Rattle.ssd_geo.specs.Ladder.{LadderState, asks, recovered, uncorrectable}
-use Rattle.ssd_geo.specs.PastPages.{ladder_over}
+use Rattle.ssd_geo.specs.Ladder.{LadderState, asks, recovered, uncorrectable, ladder_over}
 use Rattle.ssd_geo.specs.Stripe.{place_of_slot}
 use Rattle.ssd_geo.specs.Superblock.{slots_of}
 use Rattle.ssd_geo.specs.declared.look.Look.{Look}

@@ -6,7 +6,7 @@ use Rattle.std.specs.List.{list_all, range_with_len}
 use Rattle.ssd_geo.specs.BaseMatrix.{BaseMatrix}
 use Rattle.ssd_geo.specs.Coding.{word_bytes_in}
 use Rattle.ssd_geo.specs.Senses.{sense_in}
-use Rattle.ssd_geo.specs.Standing.{is_level}
+use Rattle.ssd_geo.specs.Limits.{is_level}
 use Rattle.ssd_geo.specs.declared.shape.Shape.{Shape}
 use Rattle.retry_ladder.specs.Decoder.{coding_in, is_expected}
 use Rattle.retry_ladder.specs.Running.{PlaceRun, PlaceStep, center_of, finds, goes_on, misses, place_fed}

@@ -1,7 +1,7 @@
 ghost use Rattle.std.specs.Prelude.{◌≡◌, ◌<◌, ◌≤◌, IsTrue, Some, slice_index_or};
 ghost use Rattle.retry_ladder.specs.Running.{better, center_of};
 ghost use Rattle.ssd_geo.specs.Ladder.{soft_levels};
-ghost use Rattle.ssd_geo.specs.Standing.{is_level};
+ghost use Rattle.ssd_geo.specs.Limits.{is_level};
 
 // The better of the best level so far and one more, with its failed checks.
 pub(crate) fn better(best: Option<(i16, u32)>, level: i16, failed: u32) -> (i16, u32)

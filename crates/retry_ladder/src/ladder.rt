@@ -7,7 +7,7 @@ ghost use Rattle.retry_ladder.specs.Ready.{HoldsAt};
 ghost use Rattle.ssd_geo.specs.BaseMatrix.{BaseMatrix};
 ghost use Rattle.ssd_geo.specs.Coding.{data_in, word_bytes_in};
 ghost use Rattle.ssd_geo.specs.Ladder.{has_answer, is_recovered, word_recovered};
-ghost use Rattle.ssd_geo.specs.Standing.{is_level};
+ghost use Rattle.ssd_geo.specs.Limits.{is_level};
 
 use crate::found::is_expected;
 use crate::place_work::PlaceWork;

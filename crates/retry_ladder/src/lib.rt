@@ -10,8 +10,6 @@ mod ladder;
 mod ladder_laws;
 mod place_work;
 mod step;
-#[cfg(test)]
-mod tests;
 
 pub use ask::{Answer, Ask};
 pub use decode::Decode;

@@ -4,7 +4,7 @@ ghost use Rattle.retry_ladder.specs.Decoder.{IsCodeOf};
 ghost use Rattle.retry_ladder.specs.Running.{better, center_of, level_wanted, place_start};
 ghost use Rattle.retry_ladder.specs.Work.{IsStepTo, step_with};
 ghost use Rattle.ssd_geo.specs.Coding.{word_bytes_in};
-ghost use Rattle.ssd_geo.specs.Standing.{is_level};
+ghost use Rattle.ssd_geo.specs.Limits.{is_level};
 
 use crate::Decode;
 use crate::best::{better, center_of, soft_level};

@@ -4,8 +4,6 @@
 
 mod hard;
 mod soft;
-#[cfg(test)]
-mod tests;
 
 pub use hard::hard_values;
 pub use soft::soft_values;

@@ -12,6 +12,3 @@ mod xor;
 pub use ones::{get, weight};
 pub use rotate::rotate_xor_into;
 pub use xor::xor_into;
-
-#[cfg(test)]
-mod tests;

@@ -5,7 +5,7 @@ use Rattle.std.specs.List.{count_by, list_all, position, position_or_len}
 use Rattle.std.proofs.lemmas.Bool.{and_from, cases_eq, le-leb, lt-leb, ltb-false, ltb-true}
 use Rattle.std.proofs.lemmas.List.Folds.{list_all_at}
 use Rattle.std.proofs.lemmas.List.Sums.{position_or_len_is, sum_by-cons, sum_by_more_le}
-use Rattle.ssd_geo.specs.Policies.{count_of_candidates, default_victim_of, has_most_garbage, has_no_more_garbage, is_candidate, is_candidate_at, no_info}
+use Rattle.ssd_histories.specs.Policies.{count_of_candidates, default_victim_of, has_most_garbage, has_no_more_garbage, is_candidate, is_candidate_at, no_info}
 use Rattle.ssd_geo.specs.declared.superblock.SbInfo.{SbInfo}
 use Rattle.victim.specs.First.{beats, best_with, garbage_at}
 

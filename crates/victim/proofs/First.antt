@@ -3,7 +3,7 @@ use Rattle.std.proofs.Common.{◌≡◌, ℕ, zero, suc, ◌+◌, ◌<◌, ◌�
 use Rattle.std.specs.Prelude.{option_to_list}
 use Rattle.std.specs.List.{filter, find, range_with_len}
 use Rattle.std.proofs.lemmas.Bool.{cases_eq, le-leb, lt-leb, ltb-false, ltb-true}
-use Rattle.ssd_geo.specs.Policies.{candidates, is_after_last, is_candidate_at, is_missing}
+use Rattle.ssd_histories.specs.Policies.{candidates, is_after_last, is_candidate_at, is_missing}
 use Rattle.ssd_geo.specs.declared.superblock.SbInfo.{SbInfo}
 use Rattle.victim.specs.First.{IsFirst, start_after}
 use Rattle.victim.specs.Listed.{AreListed}

@@ -5,7 +5,7 @@ use Rattle.std.proofs.lemmas.Bool.{cases_eq, eqb-true, ne_eqb}
 use Rattle.std.proofs.lemmas.List.{get_or-set_same, get_or-set_other, length-append, length-set, length-take, take_more_set}
 use Rattle.std.proofs.lemmas.List.Folds.{list_any-append}
 use Rattle.std.proofs.lemmas.List.Sums.{count_by-le-length, length-filter, sum_by-set}
-use Rattle.ssd_geo.specs.Policies.{moved_to_end}
+use Rattle.ssd_histories.specs.Policies.{moved_to_end}
 use Rattle.victim.specs.Listed.{AreListed}
 
 -- whether a number isn't this one

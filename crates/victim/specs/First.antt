@@ -1,7 +1,7 @@
 -- Which number is the first that passes a test, and which superblock is the best one so far? A loop over a table ends
 -- with these.
 use Rattle.std.specs.Prelude.{ℕ, ◌+◌, ◌≡◌, ◌<◌, nat_lt, Bool, true, false, cond, ◌&&◌, List, Option, Some, None, slice_index_or}
-use Rattle.ssd_geo.specs.Policies.{garbage_in, is_candidate_at, no_info}
+use Rattle.ssd_histories.specs.Policies.{garbage_in, is_candidate_at, no_info}
 use Rattle.ssd_geo.specs.declared.superblock.SbInfo.{SbInfo}
 
 -- among the numbers below n none passes, or this is the first that does

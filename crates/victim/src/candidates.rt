@@ -1,6 +1,6 @@
 ghost use Rattle.std.specs.Prelude.{◌≡◌, ◌<◌, ◌≤◌, nat_le, ◌&&◌, ◌↔◌, not, IfSome, IsNone, IsTrue, find, length, option_to_list, slice_index_or, false};
-ghost use Rattle.ssd_geo.specs.Policies as Policies;
-ghost use Rattle.ssd_geo.specs.Policies.{candidates, count_of_candidates, default_victim_of, garbage_in, is_after_last};
+ghost use Rattle.ssd_histories.specs.Policies as Policies;
+ghost use Rattle.ssd_histories.specs.Policies.{candidates, count_of_candidates, default_victim_of, garbage_in, is_after_last};
 ghost use Rattle.victim.specs.First.{IsFirst, beats, best_with, start_after};
 
 use ssd_geo::{SbInfo, SbState};

@@ -1,5 +1,5 @@
 ghost use Rattle.std.specs.Prelude.{◌≡◌, Some};
-ghost use Rattle.ssd_geo.specs.Policies.{first_view};
+ghost use Rattle.ssd_histories.specs.Policies.{first_view};
 ghost use Rattle.ssd_geo.specs.declared.policy_view.PolicyKind.TheVariants as kind;
 
 use crate::{Policy, default_victim};
@@ -20,7 +20,7 @@ impl Greedy {
 
 impl Policy for Greedy {
     ghost use Rattle.std.specs.Prelude.{Some};
-    ghost use Rattle.ssd_geo.specs.Policies.{first_view};
+    ghost use Rattle.ssd_histories.specs.Policies.{first_view};
     ghost use Rattle.ssd_geo.specs.declared.policy_view.PolicyKind.TheVariants as kind;
 
     ghost told = { λ policy. Some (first_view kind.Greedy) };

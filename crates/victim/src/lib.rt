@@ -13,6 +13,3 @@ pub use greedy::Greedy;
 pub use oldest::Oldest;
 pub use policy::Policy;
 pub use round_robin::RoundRobin;
-
-#[cfg(test)]
-mod tests;

@@ -1,6 +1,6 @@
 ghost use Rattle.std.specs.Prelude.{◌≡◌, ◌<◌, ◌≤◌, ◌==◌, filter, find, length, not, take, Some};
-ghost use Rattle.ssd_geo.specs.Policies as Policies;
-ghost use Rattle.ssd_geo.specs.Policies.{first_view};
+ghost use Rattle.ssd_histories.specs.Policies as Policies;
+ghost use Rattle.ssd_histories.specs.Policies.{first_view};
 ghost use Rattle.ssd_geo.specs.declared.policy_view.PolicyKind.TheVariants as kind;
 
 use crate::Policy;

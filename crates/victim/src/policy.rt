@@ -1,5 +1,5 @@
 ghost use Rattle.std.specs.Prelude.{◌≡◌, ◌<◌, ◌≤◌, IfSome, length, option_map};
-ghost use Rattle.ssd_geo.specs.Policies.{answer_of, view_after_erase, view_after_pick};
+ghost use Rattle.ssd_histories.specs.Policies.{answer_of, view_after_erase, view_after_pick};
 
 use ssd_geo::SbInfo;
 

@@ -1,5 +1,5 @@
 ghost use Rattle.std.specs.Prelude.{◌≡◌, Some};
-ghost use Rattle.ssd_geo.specs.Policies.{first_view};
+ghost use Rattle.ssd_histories.specs.Policies.{first_view};
 ghost use Rattle.ssd_geo.specs.declared.policy_view.PolicyKind.TheVariants as kind;
 
 use crate::Policy;

@@ -1,8 +1,8 @@
 // What becomes of the page of an open look.
 ghost use Rattle.std.specs.Prelude.{◌≡◌, IfSome, length};
 ghost use Rattle.ssd_geo.specs.Coding.{word_bytes_in};
-ghost use Rattle.ssd_geo.specs.History.{look_by};
-ghost use Rattle.ssd_geo.specs.OpenLooks.{look_at};
+ghost use Rattle.ssd_histories.specs.History.{look_by};
+ghost use Rattle.ssd_histories.specs.OpenLooks.{look_at};
 ghost use Rattle.ssd_geo.specs.Superblock.{slots_of};
 ghost use Rattle.chan_state.specs.Condemning.{CondemnsFor, IsCondemnAnswer, MayCondemn, kind_of_condemn, rows_after_condemn};
 ghost use Rattle.chan_state.specs.Copying.{Copies, IsMoveAnswer, MayMove, MovesFor, kind_of_move, rows_after_move};

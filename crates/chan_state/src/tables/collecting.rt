@@ -1,8 +1,8 @@
 // The victim's live pages, and its erase.
 ghost use Rattle.std.specs.Prelude.{◌≡◌, ◌+◌, ◌≤◌, ◌<◌, ◌↔◌, IfOk, IfSome, IsNone, IsTrue, None, OnErr, OnOk, Some, length};
-ghost use Rattle.ssd_geo.specs.Blocks.{victim_of};
-ghost use Rattle.ssd_geo.specs.OpenLooks.{look_at};
-ghost use Rattle.ssd_geo.specs.PageMap.{live_in, row_at};
+ghost use Rattle.ssd_histories.specs.Blocks.{victim_in};
+ghost use Rattle.ssd_histories.specs.OpenLooks.{look_at};
+ghost use Rattle.ssd_histories.specs.PageMap.{live_in, row_at};
 ghost use Rattle.chan_state.specs.Collecting.{ErasesIn, IsEraseAnswer, LooksLiveIn, NamesFirstLive};
 ghost use Rattle.chan_state.specs.TablesState.{IsStopped, room_of_look, room_of_step};
 
@@ -78,7 +78,7 @@ fn erase_answer(rows: &Rows, blocks: &Blocks, looks: &Pins, sb: u16) -> EraseAns
 
 // Whether the superblock is the victim.
 fn is_victim(blocks: &Blocks, sb: u16) -> bool
-    ensures exact { IsTrue result ↔ victim_of blocks.now.blocks ≡ Some sb }
+    ensures exact { IsTrue result ↔ victim_in blocks.now.blocks ≡ Some sb }
     ensures in_range { IsTrue result → sb < length blocks.now.blocks }
 {
     blocks.victim() == Some(sb)

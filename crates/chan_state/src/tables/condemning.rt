@@ -1,7 +1,7 @@
 // The loss of a look's row.
 ghost use Rattle.std.specs.Prelude.{◌≡◌, ◌<◌, IfSome, IsFalse, IsSome, IsTrue, length};
-ghost use Rattle.ssd_geo.specs.OpenLooks.{look_at};
-ghost use Rattle.ssd_geo.specs.Ranges.{is_in_range};
+ghost use Rattle.ssd_histories.specs.OpenLooks.{look_at};
+ghost use Rattle.ssd_histories.specs.Ranges.{is_in_range};
 ghost use Rattle.chan_state.specs.Condemning.{IsCondemnAnswer, NamesInRange, kind_of_condemn, rows_after_condemn};
 ghost use Rattle.chan_state.specs.TablesState.{ends_uncorrectable, tables_after};
 

@@ -1,9 +1,9 @@
 // What becomes of the page of an open look.
 ghost use Rattle.std.specs.Prelude.{◌≡◌, ℕ, ◌<◌, ◌↔◌, IfSome, IsFalse, IsSome, IsTrue, if◌then◌else◌, length};
-ghost use Rattle.ssd_geo.specs.Lawful.{page_looked_at};
-ghost use Rattle.ssd_geo.specs.OpenLooks.{look_at};
-ghost use Rattle.ssd_geo.specs.PageMap.{row_at};
-ghost use Rattle.ssd_geo.specs.Ranges.{is_in_range};
+ghost use Rattle.ssd_histories.specs.Lawful.{page_looked_at};
+ghost use Rattle.ssd_histories.specs.OpenLooks.{look_at};
+ghost use Rattle.ssd_histories.specs.PageMap.{row_at};
+ghost use Rattle.ssd_histories.specs.Ranges.{is_in_range};
 ghost use Rattle.ssd_geo.specs.Superblock.{slots_of};
 ghost use Rattle.chan_state.specs.Copying.{IsMoveAnswer, NamesInRange, blocks_after_move, copy_slot_of, is_in_victim, is_worn_with, kind_of_move, live_in_victim, rows_after_move};
 ghost use Rattle.chan_state.specs.TablesState.{NamesUsedIn, ends_recovered, ends_uncorrectable, tables_after};

@@ -1,9 +1,9 @@
 // What a note tells.
 ghost use Rattle.std.specs.Prelude.{◌≡◌, ◌+◌, ◌≤◌, ◌<◌, ◌&&◌, List, IfOk, IfSome, OnErr, length, nat_lt};
-ghost use Rattle.ssd_geo.specs.Blocks.{block_at};
-ghost use Rattle.ssd_geo.specs.PageMap.{live_in};
-ghost use Rattle.ssd_geo.specs.Policies.{count_of_candidates, table_of};
-ghost use Rattle.ssd_geo.specs.States.{is_sealed};
+ghost use Rattle.ssd_histories.specs.Blocks.{block_at};
+ghost use Rattle.ssd_histories.specs.PageMap.{live_in};
+ghost use Rattle.ssd_histories.specs.Policies.{count_of_candidates, table_in};
+ghost use Rattle.ssd_histories.specs.States.{is_sealed};
 ghost use Rattle.ssd_geo.specs.Superblock.{slots_of};
 ghost use Rattle.ssd_geo.specs.declared.look.Look.{Look};
 ghost use Rattle.ssd_geo.specs.declared.tag.Tag.{Tag};
@@ -75,7 +75,7 @@ fn victim_pins(looks: &Pins, blocks: &Blocks) -> u32
 fn garbage_count(rows: &Rows, blocks: &Blocks, superblocks: u16, slots: u32) -> u16
     requires superblocks { superblocks ≡ length blocks.now.blocks }
     requires rows { rows.now.superblocks ≡ length blocks.now.blocks }
-    ensures { (pins : List (Tag × Look)) → result ≡ count_of_candidates (table_of slots blocks.now.blocks rows.now.rows pins) }
+    ensures { (pins : List (Tag × Look)) → result ≡ count_of_candidates (table_in slots blocks.now.blocks rows.now.rows pins) }
 {
     let mut count = 0;
     for sb in 0..superblocks {

@@ -1,6 +1,6 @@
 use Rattle.std.proofs.Common.{arith}
 use Rattle.std.proofs.Common.{ap, Some}
-use Rattle.ssd_geo.specs.PageMap.{index_in}
+use Rattle.ssd_histories.specs.PageMap.{index_in}
 use Rattle.ssd_geo.specs.declared.row.Row.TheVariants.{Empty}
 use Rattle.map_rows.proofs.Least.{least_more}
 use Rattle.map_rows.proofs.rows.least_index.Goals as goal

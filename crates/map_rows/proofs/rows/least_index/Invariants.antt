@@ -1,6 +1,6 @@
 use Rattle.std.proofs.Common.{◌≡◌, take}
 use Rattle.std.specs.Prelude.{filter_map}
-use Rattle.ssd_geo.specs.PageMap.{index_in, least_of}
+use Rattle.ssd_histories.specs.PageMap.{index_in, least_of}
 use Rattle.map_rows.proofs.rows.least_index.Given as goal
 
 abbrev pub invariant-loop-row : goal.invariant-loop-row

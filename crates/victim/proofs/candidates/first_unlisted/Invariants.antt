@@ -1,5 +1,5 @@
 use Rattle.std.proofs.Common.{◌≡◌, ℕ, ◌<◌, ◌&&◌, not, get_or, false}
-use Rattle.ssd_geo.specs.Policies.{is_candidate_at}
+use Rattle.ssd_histories.specs.Policies.{is_candidate_at}
 use Rattle.victim.proofs.candidates.first_unlisted.Given as goal
 
 abbrev pub invariant-loop-sb : goal.invariant-loop-sb

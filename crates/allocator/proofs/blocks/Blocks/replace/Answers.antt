@@ -1,5 +1,5 @@
 use Rattle.std.proofs.lemmas.List.{get_or_read}
-use Rattle.ssd_geo.specs.Blocks.{blank_block}
+use Rattle.ssd_histories.specs.Blocks.{blank_block}
 use Rattle.allocator.proofs.Kept.{free_in_range, kept-set}
 use Rattle.allocator.proofs.blocks.Blocks.replace.Goals as goal
 

@@ -2,7 +2,7 @@ use Rattle.std.proofs.Common.{◌≡◌, ℕ, List, [], ℤ, refl, ap, arith, le
 use Rattle.std.specs.Vec.{with_items}
 use Rattle.ssd_geo.specs.Bits.{bytes_sum}
 use Rattle.ssd_geo.specs.Coding.{word_bytes_in}
-use Rattle.ssd_geo.specs.Ranges.{has_place}
+use Rattle.ssd_histories.specs.Ranges.{has_place}
 use Rattle.ssd_geo.specs.Stripe.{place_of_parity, place_of_slot, stripe_of_index}
 use Rattle.ssd_geo.specs.StripeSum.{zero_word}
 use Rattle.ssd_geo.specs.declared.place.Place.{Place}

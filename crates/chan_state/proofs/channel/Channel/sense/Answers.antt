@@ -1,7 +1,7 @@
 use Rattle.std.proofs.Common.{◌≡◌, [], sym, subst, ap, ◌∙◌, w16, to_z, of_z, rules}
 use Rattle.std.specs.Prelude.{IsTrue, slice_index_or}
 use Rattle.ssd_geo.specs.Cells.{sensed}
-use Rattle.ssd_geo.specs.Ranges.{has_place}
+use Rattle.ssd_histories.specs.Ranges.{has_place}
 use Rattle.ssd_geo.specs.declared.shape.Shape.{Shape}
 use Rattle.chan_state.specs.ChannelState.{ChannelState, page_levels, page_number}
 use Rattle.chan_state.specs.Steps.{MaySense, channel_of}

@@ -1,5 +1,5 @@
 use Rattle.std.proofs.Common.{◌≡◌, ◌<◌, sym, subst}
-use Rattle.ssd_geo.specs.Blocks.{block_at}
+use Rattle.ssd_histories.specs.Blocks.{block_at}
 use Rattle.ssd_geo.specs.declared.slot.Slot.{Slot}
 use Rattle.chan_state.specs.CellsState.{cells_after_program}
 use Rattle.chan_state.specs.ChannelState.{ChannelState}

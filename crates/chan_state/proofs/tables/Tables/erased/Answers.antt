@@ -1,7 +1,7 @@
 use Rattle.std.proofs.Common.{◌≡◌, ◌<◌, ◌∷◌, ℕ, length, refl, ap, sym, ◌∙◌, subst, Option, arith}
 use Rattle.std.specs.Prelude.{unwrap_or}
-use Rattle.ssd_geo.specs.PageMap.{live_in}
-use Rattle.ssd_geo.specs.SerialCalls.{entry_of}
+use Rattle.ssd_histories.specs.PageMap.{live_in}
+use Rattle.ssd_histories.specs.SerialCalls.{entry_of}
 use Rattle.ssd_geo.specs.declared.kind.Kind.{Kind}
 use Rattle.chan_state.specs.TablesState.{HistoryState}
 use Rattle.chan_state.proofs.ErasedTables.{fit_erase}

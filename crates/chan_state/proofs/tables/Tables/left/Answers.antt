@@ -1,6 +1,6 @@
 use Rattle.std.proofs.Common.{◌≡◌, sym, ap, subst, List}
 use Rattle.std.specs.Prelude.{IsSome}
-use Rattle.ssd_geo.specs.OpenLooks.{look_at}
+use Rattle.ssd_histories.specs.OpenLooks.{look_at}
 use Rattle.ssd_geo.specs.declared.look.Look.{Look}
 use Rattle.ssd_geo.specs.declared.tag.Tag.{Tag}
 use Rattle.chan_state.specs.TablesState.{TablesState}

@@ -2,7 +2,7 @@ use Rattle.std.proofs.Common.{◌≡◌, ◌<◌, ◌++◌, ◌∷◌, [], List,
 use Rattle.ssd_geo.specs.declared.kind.Kind.{Kind}
 use Rattle.ssd_geo.specs.declared.look.Look.{Look}
 use Rattle.ssd_geo.specs.declared.row.Row.{Row}
-use Rattle.ssd_geo.specs.OpenLooks.{look_at}
+use Rattle.ssd_histories.specs.OpenLooks.{look_at}
 use Rattle.ssd_geo.specs.declared.tag.Tag.{Tag}
 use Rattle.chan_state.specs.TablesState.{HistoryState, TablesState}
 use Rattle.chan_state.proofs.EarlierLooks.{none_began}

@@ -1,5 +1,5 @@
 use Rattle.std.proofs.Common.{◌≡◌, length, subst, None}
-use Rattle.ssd_geo.specs.OpenLooks.{look_at}
+use Rattle.ssd_histories.specs.OpenLooks.{look_at}
 use Rattle.chan_state.specs.TablesState.{TablesState}
 use Rattle.chan_state.proofs.Fits.{none_at_end}
 use Rattle.chan_state.proofs.tables.Tables.look_live.Goals as goal

@@ -1,7 +1,7 @@
 use Rattle.std.proofs.Common.{◌≡◌, ◌<◌, List, arith, sym, ap, subst, ◌∙◌, Some}
 use Rattle.std.specs.Prelude.{IfSome, IsFalse, IsSome}
-use Rattle.ssd_geo.specs.History.{look_of, open_looks}
-use Rattle.ssd_geo.specs.OpenLooks.{look_at}
+use Rattle.ssd_histories.specs.History.{look_of, open_looks}
+use Rattle.ssd_histories.specs.OpenLooks.{look_at}
 use Rattle.ssd_geo.specs.declared.entry.Entry.{Entry}
 use Rattle.ssd_geo.specs.declared.look.Look.{Look}
 use Rattle.ssd_geo.specs.declared.tag.Tag.{Tag}

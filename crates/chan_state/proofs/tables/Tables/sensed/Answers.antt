@@ -1,7 +1,7 @@
 use Rattle.std.proofs.Common.{◌≡◌, refl, eq-eqb, ◌<◌, sym, ap, subst, List, w16, to_z, of_z, rules}
 use Rattle.std.specs.Prelude.{IsSome}
-use Rattle.ssd_geo.specs.OpenLooks.{look_at}
-use Rattle.ssd_geo.specs.SerialCalls.{entry_of}
+use Rattle.ssd_histories.specs.OpenLooks.{look_at}
+use Rattle.ssd_histories.specs.SerialCalls.{entry_of}
 use Rattle.ssd_geo.specs.declared.kind.Kind.{Kind}
 use Rattle.ssd_geo.specs.declared.entry.Entry.{Entry}
 use Rattle.ssd_geo.specs.declared.look.Look.{Look}

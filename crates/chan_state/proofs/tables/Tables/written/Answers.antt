@@ -1,5 +1,5 @@
 use Rattle.std.proofs.Common.{◌≡◌, ◌<◌, length, Some, refl}
-use Rattle.ssd_geo.specs.Blocks.{next_slot_of}
+use Rattle.ssd_histories.specs.Blocks.{next_slot_of}
 use Rattle.ssd_geo.specs.declared.kind.Kind.{Kind}
 use Rattle.ssd_geo.specs.declared.slot.Slot.{Slot}
 use Rattle.chan_state.specs.TablesState.{HistoryState}

@@ -2,7 +2,7 @@ use mir.Val.{bool_byte}
 use Rattle.std.proofs.Common.{◌≡◌, ◌≤◌, ◌+◌, ℕ, cond, Bool, true, false, map, refl, sym, ◌∙◌, ap, arith}
 use Rattle.std.specs.List.{range_with_len}
 use Rattle.std.proofs.lemmas.List.FromFn.{sum_by-map-range_with_len_more}
-use Rattle.ssd_geo.specs.Policies.{count_of_candidates, info_of, is_candidate}
+use Rattle.ssd_histories.specs.Policies.{count_of_candidates, info_of, is_candidate}
 use Rattle.ssd_geo.specs.declared.superblock.SbInfo.{SbInfo}
 use Rattle.chan_state.proofs.tables.noting.garbage_count.Goals as goal
 

@@ -1,6 +1,6 @@
 use Rattle.std.proofs.Common.{◌≡◌, ◌≤◌, List, map}
 use Rattle.std.specs.List.{range_with_len}
-use Rattle.ssd_geo.specs.Policies.{count_of_candidates, info_of}
+use Rattle.ssd_histories.specs.Policies.{count_of_candidates, info_of}
 use Rattle.ssd_geo.specs.declared.look.Look.{Look}
 use Rattle.ssd_geo.specs.declared.tag.Tag.{Tag}
 use Rattle.chan_state.proofs.tables.noting.garbage_count.Given as goal

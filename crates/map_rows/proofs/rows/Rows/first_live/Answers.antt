@@ -1,6 +1,6 @@
 use Rattle.std.proofs.Common.{◌∙◌, ap, refl, sym}
 use Rattle.std.specs.Prelude.{option_map}
-use Rattle.ssd_geo.specs.PageMap.{slot_at}
+use Rattle.ssd_histories.specs.PageMap.{slot_at}
 use Rattle.map_rows.proofs.FirstLive.{first_live_none, least_is_live}
 use Rattle.map_rows.proofs.rows.Rows.first_live.Goals as goal
 

@@ -10,7 +10,7 @@ use Rattle.retry_ladder.specs.declared.place_work.PlaceWork.TheInside.{Inside}
 use Rattle.ssd_geo.specs.BaseMatrix.{BaseMatrix}
 use Rattle.ssd_geo.specs.Codewords.{failed_checks}
 use Rattle.ssd_geo.specs.Senses.{sense_in}
-use Rattle.ssd_geo.specs.Standing.{is_level}
+use Rattle.ssd_geo.specs.Limits.{is_level}
 use Rattle.std.specs.List.{range_with_len}
 use Rattle.std.proofs.Math.Seq.{drop-cons}
 use Rattle.std.proofs.lemmas.Int.{to_z-of_z}

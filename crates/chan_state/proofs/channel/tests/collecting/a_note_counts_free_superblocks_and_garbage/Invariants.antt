@@ -1,5 +1,0 @@
-use Rattle.chan_state.specs.SmallChannel.{IsTried}
-use Rattle.chan_state.proofs.channel.tests.collecting.a_note_counts_free_superblocks_and_garbage.Given as goal
-
-abbrev pub invariant-loop-call : goal.invariant-loop-call
-invariant-loop-call g l = IsTried l.channel

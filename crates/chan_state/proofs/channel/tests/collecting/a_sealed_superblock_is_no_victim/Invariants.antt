@@ -1,8 +1,0 @@
-use Rattle.chan_state.specs.SmallChannel.{IsTried}
-use Rattle.chan_state.proofs.channel.tests.collecting.a_sealed_superblock_is_no_victim.Given as goal
-
-abbrev pub invariant-loop-call : goal.invariant-loop-call
-invariant-loop-call g l = IsTried l.channel
-
-abbrev pub invariant-loop-sb : goal.invariant-loop-sb
-invariant-loop-sb g l = IsTried l.channel

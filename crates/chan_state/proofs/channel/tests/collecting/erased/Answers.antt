@@ -1,6 +1,0 @@
-use Rattle.chan_state.proofs.TriedSteps.{tried_erased}
-use Rattle.chan_state.proofs.channel.tests.collecting.erased.Goals as goal
-
-pub returns : goal.returns
-returns c =
-    tried_erased c.args.channel.now c.erase_if.new.self c.tag.result c.args.sb c.erase_if.result c.erase_if.ensures.ok c.erase_if.ensures.err c.requires

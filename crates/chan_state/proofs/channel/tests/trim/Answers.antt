@@ -1,6 +1,0 @@
-use Rattle.chan_state.proofs.TriedSteps.{tried_trimmed}
-use Rattle.chan_state.proofs.channel.tests.trim.Goals as goal
-
-pub returns : goal.returns
-returns c =
-    tried_trimmed c.args.channel.now c.trim.new.self c.tag.result c.args.row c.trim.result c.trim.ensures.ok c.trim.ensures.err c.requires.tried

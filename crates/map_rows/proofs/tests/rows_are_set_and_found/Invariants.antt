@@ -1,8 +1,0 @@
-use Rattle.std.proofs.Common.{◌≡◌, length}
-use Rattle.map_rows.proofs.tests.rows_are_set_and_found.Given as goal
-
-abbrev pub invariant-loop-row : goal.invariant-loop-row
-invariant-loop-row g l = (l.map.superblocks ≡ 3) × (l.map.slots ≡ 4) × (length l.map.rows ≡ 4)
-
-abbrev pub invariant-loop-at : goal.invariant-loop-at
-invariant-loop-at g l = (l.map.superblocks ≡ 3) × (l.map.slots ≡ 4) × (length l.map.rows ≡ 4)
