@@ -1,5 +1,5 @@
 -- A ladder comes to an answer after a bounded number of senses.
-use Rattle.std.proofs.Common.{◌≡◌, ℕ, zero, suc, ◌+◌, ◌*◌, ◌<◌, ◌≤◌, ◌==◌, nat_lt, not, cond, Bool, true, false, List, [], ◌∷◌, length, take, drop, refl, ap, Option, Some, None, arith, length-drop}
+use Rattle.std.proofs.Common.{◌≡◌, ℕ, zero, suc, ◌+◌, ◌*◌, ◌<◌, ◌≤◌, ◌==◌, nat_lt, not, cond, Bool, true, false, List, [], ◌∷◌, length, take, drop, refl, ap, Option, arith, length-drop}
 use Rattle.std.specs.Prelude.{filter, slice_index_or, ℤ}
 use Rattle.std.proofs.Math.Nat.{mul-le-mul_left}
 use Rattle.std.proofs.lemmas.List.FromFn.{length-range_with_len}
@@ -12,7 +12,7 @@ use Rattle.ssd_geo.specs.Coding.{Coding}
 use Rattle.ssd_geo.specs.declared.place.Place.{Place}
 use Rattle.ssd_geo.specs.StripeSum.{zero_word}
 use Rattle.ssd_geo.specs.LadderLaws.{AsksBelow, LaddersEnd}
-use Rattle.ssd_geo.specs.Ladder.{LadderState, PlaceState, asks, recovered, uncorrectable, wants, found, missed, accepted, soft_work, soft_levels, hard_work, place_work, best_level, stripe_work, ladder, other_places}
+use Rattle.ssd_geo.specs.Ladder.{LadderState, PageState, PlaceState, asks, recovered, uncorrectable, wants, found, missed, none_kept, page_decoded, partly, whole, soft_work, soft_levels, hard_work, place_work, best_level, stripe_work, ladder, other_places}
 
 -- a place that was given so many senses wants one more only below a limit, and uses no more than the limit
 abbrev Bounded : ℕ → ℕ → PlaceState → Type 0
@@ -32,51 +32,56 @@ bounded_to limit other senses (wants level) e h = omega arith
 bounded_to limit other senses (found rung word left) e h = omega arith
 bounded_to limit other senses (missed left) e h = omega arith
 
-soft_found : (coding : Coding) (senses : List (List ℕ)) (o : Option (List ℕ)) → 5 ≤ length senses
-    → Bounded 5 (length senses) (elim o [ Some word ↦ found (length coding.levels) word (drop 5 senses) | None ↦ missed (drop 5 senses) ])
-soft_found coding senses None h = omega (arith, length-drop 5 senses)
-soft_found coding senses (Some word) h = omega (arith, length-drop 5 senses)
+soft_found : (coding : Coding) (senses : List (List ℕ)) (state : PageState) → 5 ≤ length senses
+    → Bounded 5 (length senses) (elim state [ whole word ↦ found (length coding.levels) word (drop 5 senses) | partly now ↦ missed (drop 5 senses) ])
+soft_found coding senses (partly now) h = omega (arith, length-drop 5 senses)
+soft_found coding senses (whole word) h = omega (arith, length-drop 5 senses)
 
 -- the level that the soft part wants next
 abbrev soft_level : Coding → ℤ → List (List ℕ) → ℤ
 soft_level coding center senses = slice_index_or (soft_levels coding.step center) (length senses) center
 
-soft_cases : (coding : Coding) (accepts : List ℕ → Bool) (center : ℤ) (senses : List (List ℕ)) (b : Bool) → nat_lt (length senses) 5 ≡ b
+soft_cases : (coding : Coding) (accepts : List ℕ → Bool) (center : ℤ) (kept : List (Option (List ℕ))) (senses : List (List ℕ)) (b : Bool) → nat_lt (length senses) 5 ≡ b
     → Bounded 5 (length senses) (elim b [
       | true ↦ wants (soft_level coding center senses)
-      | false ↦ elim (accepted accepts (coding.soft (take 5 senses))) [
-        | Some word ↦ found (length coding.levels) word (drop 5 senses)
-        | None ↦ missed (drop 5 senses)
+      | false ↦ elim (page_decoded coding accepts (coding.soft (take 5 senses)) kept) [
+        | whole word ↦ found (length coding.levels) word (drop 5 senses)
+        | partly now ↦ missed (drop 5 senses)
       ]
     ])
-soft_cases coding accepts center senses true e = grind (arith, nat_tests)
-soft_cases coding accepts center senses false e =
-    soft_found coding senses (accepted accepts (coding.soft (take 5 senses))) (grind (arith, nat_tests))
+soft_cases coding accepts center kept senses true e = grind (arith, nat_tests)
+soft_cases coding accepts center kept senses false e =
+    soft_found coding senses (page_decoded coding accepts (coding.soft (take 5 senses)) kept) (grind (arith, nat_tests))
 
-soft_bounded : (coding : Coding) (accepts : List ℕ → Bool) (center : ℤ) (senses : List (List ℕ)) → Bounded 5 (length senses) (soft_work coding accepts center senses)
-soft_bounded coding accepts center senses = soft_cases coding accepts center senses (nat_lt (length senses) 5) refl
+soft_bounded : (coding : Coding) (accepts : List ℕ → Bool) (center : ℤ) (kept : List (Option (List ℕ))) (senses : List (List ℕ)) → Bounded 5 (length senses) (soft_work coding accepts center kept senses)
+soft_bounded coding accepts center kept senses = soft_cases coding accepts center kept senses (nat_lt (length senses) 5) refl
 
-hard_cases : (coding : Coding) (accepts : List ℕ → Bool) (after : List (List ℕ) → PlaceState) (levels : List ℤ) (rung : ℕ) (senses : List (List ℕ)) (limit : ℕ) (o : Option (List ℕ))
-    → Bounded limit (length senses) (hard_work coding accepts after levels (rung + 1) senses)
-    → Bounded (suc limit) (suc (length senses)) (elim o [ Some word ↦ found rung word senses | None ↦ hard_work coding accepts after levels (rung + 1) senses ])
-hard_cases coding accepts after levels rung senses limit None h =
-    bounded_suc limit (length senses) (hard_work coding accepts after levels (rung + 1) senses) h
-hard_cases coding accepts after levels rung senses limit (Some word) h = omega arith
+-- what comes after the hard part uses five senses, whatever was kept
+abbrev AfterBounded : (List (Option (List ℕ)) → List (List ℕ) → PlaceState) → Type 0
+AfterBounded after = (kept : List (Option (List ℕ))) (senses : List (List ℕ)) → Bounded 5 (length senses) (after kept senses)
 
-hard_bounded : (coding : Coding) (accepts : List ℕ → Bool) (after : List (List ℕ) → PlaceState) → ((senses : List (List ℕ)) → Bounded 5 (length senses) (after senses))
-    → (levels : List ℤ) (rung : ℕ) (senses : List (List ℕ)) → Bounded (length levels + 5) (length senses) (hard_work coding accepts after levels rung senses)
-hard_bounded coding accepts after h [] rung senses = h senses
-hard_bounded coding accepts after h (level ∷ levels) rung [] = omega arith
-hard_bounded coding accepts after h (level ∷ levels) rung (sense ∷ senses) =
+hard_cases : (coding : Coding) (accepts : List ℕ → Bool) (after : List (Option (List ℕ)) → List (List ℕ) → PlaceState) (levels : List ℤ) (rung : ℕ) (senses : List (List ℕ)) (limit : ℕ) (state : PageState)
+    → ((kept : List (Option (List ℕ))) → Bounded limit (length senses) (hard_work coding accepts after levels (rung + 1) kept senses))
+    → Bounded (suc limit) (suc (length senses)) (elim state [ whole word ↦ found rung word senses | partly now ↦ hard_work coding accepts after levels (rung + 1) now senses ])
+hard_cases coding accepts after levels rung senses limit (partly now) h =
+    bounded_suc limit (length senses) (hard_work coding accepts after levels (rung + 1) now senses) (h now)
+hard_cases coding accepts after levels rung senses limit (whole word) h = omega arith
+
+hard_bounded : (coding : Coding) (accepts : List ℕ → Bool) (after : List (Option (List ℕ)) → List (List ℕ) → PlaceState) → AfterBounded after
+    → (levels : List ℤ) (rung : ℕ) (kept : List (Option (List ℕ))) (senses : List (List ℕ)) → Bounded (length levels + 5) (length senses) (hard_work coding accepts after levels rung kept senses)
+hard_bounded coding accepts after h [] rung kept senses = h kept senses
+hard_bounded coding accepts after h (level ∷ levels) rung kept [] = omega arith
+hard_bounded coding accepts after h (level ∷ levels) rung kept (sense ∷ senses) =
     bounded_to (suc (length levels + 5)) (suc (length levels) + 5) (suc (length senses))
-    (hard_work coding accepts after (level ∷ levels) rung (sense ∷ senses)) (omega arith)
-    (hard_cases coding accepts after levels rung senses (length levels + 5) (accepted accepts (coding.hard sense))
-    (hard_bounded coding accepts after h levels (rung + 1) senses))
+    (hard_work coding accepts after (level ∷ levels) rung kept (sense ∷ senses)) (omega arith)
+    (hard_cases coding accepts after levels rung senses (length levels + 5) (page_decoded coding accepts (coding.hard sense) kept)
+    (λ now. hard_bounded coding accepts after h levels (rung + 1) now senses))
 
 place_bounded : (coding : Coding) (accepts : List ℕ → Bool) (senses : List (List ℕ)) → Bounded (length coding.levels + 5) (length senses) (place_work coding accepts senses)
 place_bounded coding accepts senses =
-    hard_bounded coding accepts (soft_work coding accepts (best_level coding senses)) (soft_bounded coding accepts (best_level coding senses))
-    coding.levels 0 senses
+    hard_bounded coding accepts (soft_work coding accepts (best_level coding senses))
+    (λ kept left. soft_bounded coding accepts (best_level coding senses) kept left)
+    coding.levels 0 (none_kept coding) senses
 
 -- a greater limit for more senses
 asks_more : (limit senses more had : ℕ) (state : LadderState) → (senses < limit → had < more) → AsksBelow limit senses state → AsksBelow more had state

@@ -4,6 +4,7 @@ pub mod BitsOfBytes
 pub mod DecodingBounds
 pub mod FoundWords
 pub mod LadderBound
+pub mod PageWords
 pub mod Payloads
 pub mod SenseValues
 pub mod Sizes

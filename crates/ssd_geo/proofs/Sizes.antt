@@ -1,8 +1,8 @@
 -- Sizes without a fault: the proof of the law of specs/Limits.antt.
-use Rattle.std.proofs.Common.{◌≡◌, ℕ, ◌+◌, ◌-◌, ◌*◌, ◌%◌, ◌^◌, ◌≤◌, ◌==◌, ◌&&◌, nat_lt, nat_le, Bool, true, false, not, cond, List, [], ◌∷◌, length, Option, Some, None, refl, arith}
+use Rattle.std.proofs.Common.{◌≡◌, ◌≢◌, ℕ, ◌+◌, ◌-◌, ◌*◌, ◌/◌, ◌%◌, ◌^◌, ◌≤◌, ◌==◌, ◌&&◌, nat_lt, nat_le, Bool, true, false, not, cond, List, [], ◌∷◌, length, Option, Some, None, refl, arith}
 use Rattle.std.specs.List.{position_or_len}
 use Rattle.std.proofs.lemmas.Bool.Decides.{nat_tests}
-use Rattle.ssd_geo.specs.Limits.{cells_of, first_size_fault, is_within, payload_bytes_of, ranges_kept, IsWithinLimits, FaultlessSizesAreWithin}
+use Rattle.ssd_geo.specs.Limits.{cells_of, first_size_fault, is_column_count, is_within, is_word_count, most_rows_of, payload_bytes_of, ranges_kept, IsWithinLimits, FaultlessSizesAreWithin}
 
 -- all tests are passed
 abbrev AllPassed : List Bool → Type 0
@@ -65,27 +65,57 @@ order_from_test a b e = grind (arith, nat_tests)
 test_from_order : (a b : ℕ) → a ≤ b → nat_le a b ≡ true
 test_from_order a b h = grind (arith, nat_tests)
 
+-- whole bytes, in bits
+pub whole_eighths : (bits : ℕ) → bits % 8 ≡ 0 → 8 * (bits / 8) ≡ bits
+whole_eighths bits whole = omega arith
+
+pub eight_times : (words bytes : ℕ) → 8 * (words * bytes) ≡ words * (8 * bytes)
+eight_times words bytes = omega arith
+
+-- the data bytes of a page fit its payload behind the head
+bytes_fit : (bytes payload : ℕ) → 1 ≤ bytes → bytes ≤ payload - 16 → bytes + 16 ≤ payload
+bytes_fit bytes payload low high = omega arith
+
+bytes_fitted : (bytes payload : ℕ) → bytes + 16 ≤ payload → bytes ≤ payload - 16
+bytes_fitted bytes payload h = omega arith
+
+-- one, two or four codewords
+word_count_three : (words : ℕ) → words ≡ 3 → is_word_count words ≡ true → ⊥
+word_count_three words three e = grind (arith, nat_tests)
+
+word_count_is : (words : ℕ) → is_word_count words ≡ true → (1 ≤ words) × (words ≤ 4) × (words ≢ 3)
+word_count_is words e = (grind (arith, nat_tests), grind (arith, nat_tests), λ three. word_count_three words three e)
+
+word_count_from : (words : ℕ) → 1 ≤ words → words ≤ 4 → words ≢ 3 → is_word_count words ≡ true
+word_count_from words low high other = grind (arith, nat_tests)
+
 -- no fault is found exactly where the sizes are within the limits
 pub faultless_sizes_are_within : FaultlessSizesAreWithin
-faultless_sizes_are_within channels dies superblocks pages z mb nb bytes rows =
-    let tests : List Bool = ranges_kept channels dies superblocks pages z mb nb bytes rows in
-    let cells : ℕ = cells_of channels dies superblocks pages z nb in
-    let payload : ℕ = payload_bytes_of mb nb z in
-    let most : ℕ = (superblocks - 2) * (dies - 1) * pages in (
-      (λ (e : first_size_fault channels dies superblocks pages z mb nb bytes rows ≡ None).
+faultless_sizes_are_within sizes =
+    let tests : List Bool = ranges_kept sizes in
+    let part : ℕ = (sizes.nb - sizes.mb) * sizes.z % 8 in
+    let code : ℕ = sizes.nb * sizes.z % 8 in
+    let cells : ℕ = cells_of sizes in
+    let payload : ℕ = payload_bytes_of sizes in
+    let most : ℕ = most_rows_of sizes 0 in (
+      (λ (e : first_size_fault sizes ≡ None).
           let all : AllPassed tests = all_from_end tests (end_from_none (position_or_len not tests) (length tests) e) in
-          let c : (1 ≤ channels) × (channels ≤ 8) = between 1 8 channels all.0 in
-          let k : (3 ≤ dies) × (dies ≤ 8) = between 3 8 dies all.1.0 in
-          let n : (4 ≤ superblocks) × (superblocks ≤ 256) = between 4 256 superblocks all.1.1.0 in
-          let p : (2 ≤ pages) × (pages ≤ 256) = between 2 256 pages all.1.1.1.0 in
-          let l : (4 ≤ z) × (z ≤ 1024) = between 4 1024 z all.1.1.1.1.0 in
-          let m : (3 ≤ mb) × (mb ≤ 16) = between 3 16 mb all.1.1.1.1.1.0 in
-          let whole : _ =
-          whole_tests (is_within (mb + 1) 128 nb) ((nb - mb) * z % 8 == 0) (nb * z % 8 == 0) (nat_le cells (2 ^ 28)) all.1.1.1.1.1.1.0 in
-          let b : (mb + 1 ≤ nb) × (nb ≤ 128) = between (mb + 1) 128 nb whole.0 in
-          let d : (1 ≤ bytes) × (bytes ≤ payload - 16) = between 1 (payload - 16) bytes all.1.1.1.1.1.1.1.0 in
-          let r : (1 ≤ rows) × (rows ≤ most) = between 1 most rows all.1.1.1.1.1.1.1.1.0 in
+          let w : (1 ≤ sizes.words) × (sizes.words ≤ 4) × (sizes.words ≢ 3) = word_count_is sizes.words all.0 in
+          let c : (1 ≤ sizes.channels) × (sizes.channels ≤ 8) = between 1 8 sizes.channels all.1.0 in
+          let k : (3 ≤ sizes.dies) × (sizes.dies ≤ 8) = between 3 8 sizes.dies all.1.1.0 in
+          let n : (4 ≤ sizes.superblocks) × (sizes.superblocks ≤ 256) = between 4 256 sizes.superblocks all.1.1.1.0 in
+          let p : (2 ≤ sizes.pages) × (sizes.pages ≤ 256) = between 2 256 sizes.pages all.1.1.1.1.0 in
+          let l : (4 ≤ sizes.z) × (sizes.z ≤ 1024) = between 4 1024 sizes.z all.1.1.1.1.1.0 in
+          let m : (3 ≤ sizes.mb) × (sizes.mb ≤ 16) = between 3 16 sizes.mb all.1.1.1.1.1.1.0 in
+          let columns : _ =
+          whole_tests (is_within (sizes.mb + 1) 128 sizes.nb) (part == 0) (code == 0) (nat_le cells (2 ^ 28)) all.1.1.1.1.1.1.1.0 in
+          let b : (sizes.mb + 1 ≤ sizes.nb) × (sizes.nb ≤ 128) = between (sizes.mb + 1) 128 sizes.nb columns.0 in
+          let d : (1 ≤ sizes.bytes) × (sizes.bytes ≤ payload - 16) = between 1 (payload - 16) sizes.bytes all.1.1.1.1.1.1.1.1.0 in
+          let r : (1 ≤ sizes.rows) × (sizes.rows ≤ most) = between 1 most sizes.rows all.1.1.1.1.1.1.1.1.1.0 in
           record {
+            words_low = w.0;
+            words_high = w.1;
+            words_not_three = w.2;
             channels_low = c.0;
             channels_high = c.1;
             dies_low = k.0;
@@ -100,39 +130,42 @@ faultless_sizes_are_within channels dies superblocks pages z mb nb bytes rows =
             base_rows_high = m.1;
             base_columns_low = b.0;
             base_columns_high = b.1;
-            whole_payload_bytes = same_from_test ((nb - mb) * z % 8) 0 whole.1;
-            whole_word_bytes = same_from_test (nb * z % 8) 0 whole.2;
-            cells_high = order_from_test cells (2 ^ 28) whole.3;
+            whole_payload_bytes = same_from_test part 0 columns.1;
+            whole_word_bytes = same_from_test code 0 columns.2;
+            cells_high = order_from_test cells (2 ^ 28) columns.3;
             bytes_low = d.0;
-            bytes_high = omega arith;
+            bytes_high = let high : sizes.bytes ≤ payload - 16 = d.1 in let low : 1 ≤ sizes.bytes = d.0 in bytes_fit sizes.bytes payload low high;
             rows_low = r.0;
             rows_high = r.1;
           }),
-      (λ (w : IsWithinLimits channels dies superblocks pages z mb nb bytes rows).
-          let whole : (is_within (mb + 1) 128 nb && (nb - mb) * z % 8 == 0 && nb * z % 8 == 0 && nat_le cells (2 ^ 28)) ≡ true =
-          whole_from_tests (is_within (mb + 1) 128 nb) ((nb - mb) * z % 8 == 0) (nb * z % 8 == 0) (nat_le cells (2 ^ 28))
-          (is_within_from (mb + 1) 128 nb w.base_columns_low w.base_columns_high)
-          (test_from_same ((nb - mb) * z % 8) 0 w.whole_payload_bytes)
-          (test_from_same (nb * z % 8) 0 w.whole_word_bytes)
+      (λ (w : IsWithinLimits sizes).
+          let columns : is_column_count sizes ≡ true =
+          whole_from_tests (is_within (sizes.mb + 1) 128 sizes.nb) (part == 0) (code == 0) (nat_le cells (2 ^ 28))
+          (is_within_from (sizes.mb + 1) 128 sizes.nb w.base_columns_low w.base_columns_high)
+          (test_from_same part 0 w.whole_payload_bytes)
+          (test_from_same code 0 w.whole_word_bytes)
           (test_from_order cells (2 ^ 28) w.cells_high) in
-          let high : bytes ≤ payload - 16 = omega arith in
+          let high : sizes.bytes ≤ payload - 16 = bytes_fitted sizes.bytes payload w.bytes_high in
           let all : AllPassed tests = (
-            is_within_from 1 8 channels w.channels_low w.channels_high,
+            word_count_from sizes.words w.words_low w.words_high w.words_not_three,
             (
-              is_within_from 3 8 dies w.dies_low w.dies_high,
+              is_within_from 1 8 sizes.channels w.channels_low w.channels_high,
               (
-                is_within_from 4 256 superblocks w.superblocks_low w.superblocks_high,
+                is_within_from 3 8 sizes.dies w.dies_low w.dies_high,
                 (
-                  is_within_from 2 256 pages w.pages_low w.pages_high,
+                  is_within_from 4 256 sizes.superblocks w.superblocks_low w.superblocks_high,
                   (
-                    is_within_from 4 1024 z w.lifting_low w.lifting_high,
+                    is_within_from 2 256 sizes.pages w.pages_low w.pages_high,
                     (
-                      is_within_from 3 16 mb w.base_rows_low w.base_rows_high,
+                      is_within_from 4 1024 sizes.z w.lifting_low w.lifting_high,
                       (
-                        whole,
+                        is_within_from 3 16 sizes.mb w.base_rows_low w.base_rows_high,
                         (
-                          is_within_from 1 (payload - 16) bytes w.bytes_low high,
-                          (is_within_from 1 most rows w.rows_low w.rows_high, tt),
+                          columns,
+                          (
+                            is_within_from 1 (payload - 16) sizes.bytes w.bytes_low high,
+                            (is_within_from 1 most sizes.rows w.rows_low w.rows_high, tt),
+                          ),
                         ),
                       ),
                     ),

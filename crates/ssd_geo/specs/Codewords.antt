@@ -1,5 +1,5 @@
--- Which words are codewords, and which one has a given payload? A word of nb * z bits is a codeword where each of the
--- mb * z check rows has an even sum. The parity of a payload is solved for block by block: with L i
+-- Which words are codewords, and which one has a given part? A word of nb * z bits is a codeword where each of the
+-- mb * z check rows has an even sum. The parity of a part is solved for block by block: with L i
 -- the sum of base row i over the message blocks, the first parity block is the sum of all L i, the
 -- second is L 0 plus the first one turned by its shift, and each further one is the row's L plus the parity block before
 -- it, with the first parity block added in the one middle row that has it.
@@ -10,7 +10,7 @@ use Rattle.ssd_geo.specs.Layer.{variables_of}
 use Rattle.ssd_geo.specs.Bits.{IsOfBits, bits_of, bytes_of, bit_sum, bits_sum, total_bits, rotated}
 use Rattle.ssd_geo.specs.BaseMatrix.{BaseMatrix, message_columns, parity_entry, layer_of}
 
--- the number of bits of a word, and of a payload
+-- the number of bits of a codeword, and of its part: the payload of the code
 abbrev pub word_bits : BaseMatrix → ℕ
 word_bits m = m.nb * m.z
 
@@ -75,9 +75,9 @@ parity_block m bits (suc (suc t)) =
 abbrev pub coded_bits : BaseMatrix → List Bool → List Bool
 coded_bits m bits = bits ++ flat_map (parity_block m bits) (range_with_len 0 m.mb)
 
--- the word of a payload, both lists of bytes
-abbrev pub word_of : BaseMatrix → List ℕ → List ℕ
-word_of m payload = bytes_of (coded_bits m (bits_of (payload_bits m) payload))
+-- the codeword of a part, both lists of bytes
+abbrev pub code_of : BaseMatrix → List ℕ → List ℕ
+code_of m part = bytes_of (coded_bits m (bits_of (payload_bits m) part))
 
 -- a word begins with a payload: its first bits are the payload's bits
 abbrev pub BeginsWith : BaseMatrix → List ℕ → List ℕ → Type 0
@@ -85,16 +85,16 @@ BeginsWith m payload word = bits_of (payload_bits m) word ≡ bits_of (payload_b
 
 -- the first law of each accepted matrix: the word of a payload is a word, and a codeword
 abbrev pub WordIsCodeword : BaseMatrix → Type 0
-WordIsCodeword m = (payload : List ℕ) → IsOfBits (word_bits m) (word_of m payload) × IsCodeword m (word_of m payload)
+WordIsCodeword m = (payload : List ℕ) → IsOfBits (word_bits m) (code_of m payload) × IsCodeword m (code_of m payload)
 
 -- the second: it begins with the payload
 abbrev pub WordBeginsWithPayload : BaseMatrix → Type 0
-WordBeginsWithPayload m = (payload : List ℕ) → BeginsWith m payload (word_of m payload)
+WordBeginsWithPayload m = (payload : List ℕ) → BeginsWith m payload (code_of m payload)
 
 -- the third: no other codeword does
 abbrev pub WordIsOnlyCodeword : BaseMatrix → Type 0
 WordIsOnlyCodeword m =
-    (payload word : List ℕ) → IsOfBits (word_bits m) word → IsCodeword m word → BeginsWith m payload word → word ≡ word_of m payload
+    (payload word : List ℕ) → IsOfBits (word_bits m) word → IsCodeword m word → BeginsWith m payload word → word ≡ code_of m payload
 
 -- a word is the one codeword that begins with a payload
 pub record IsOnlyCodewordOf (m : BaseMatrix) (payload word : List ℕ) : Type 0 where

@@ -3,7 +3,7 @@ ghost use Rattle.std.specs.Prelude.{[], ◌∷◌, ◌≡◌, false, None, pos, 
 ghost use Rattle.ssd_geo.specs.BaseMatrix.{diagonal, first_fault};
 ghost use Rattle.ssd_geo.specs.Bits.{bits_of, rotated};
 ghost use Rattle.ssd_geo.specs.CodeExamples.{matrix_with, small_matrix};
-ghost use Rattle.ssd_geo.specs.Codewords.{failed_checks, first_parity, parity_block, word_of};
+ghost use Rattle.ssd_geo.specs.Codewords.{failed_checks, first_parity, parity_block, code_of};
 
 /// Bits stand lowest first in their bytes, and a shift of 1 takes each bit from the place after it.
 pub fn example_bits()
@@ -18,7 +18,7 @@ pub fn example_word()
     ensures first_block { first_parity small_matrix (bits_of 8 (1 ∷ [])) ≡ true ∷ true ∷ false ∷ false ∷ [] }
     ensures second_block { parity_block small_matrix (bits_of 8 (1 ∷ [])) 1 ≡ false ∷ false ∷ false ∷ true ∷ [] }
     ensures third_block { parity_block small_matrix (bits_of 8 (1 ∷ [])) 2 ≡ true ∷ true ∷ false ∷ true ∷ [] }
-    ensures word { word_of small_matrix (1 ∷ []) ≡ 1 ∷ 131 ∷ 11 ∷ [] }
+    ensures word { code_of small_matrix (1 ∷ []) ≡ 1 ∷ 131 ∷ 11 ∷ [] }
     ensures codeword { failed_checks small_matrix (1 ∷ 131 ∷ 11 ∷ []) ≡ 0 }
     ensures flipped { failed_checks small_matrix (0 ∷ 131 ∷ 11 ∷ []) ≡ 2 }
 {}

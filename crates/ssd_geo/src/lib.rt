@@ -46,9 +46,13 @@ pub use kind::Kind;
 pub use ladder_laws::ladders_end;
 pub use look::Look;
 pub use memory::Memory;
-pub use page_examples::{example_payloads, example_stripe_sum, example_stripes, example_values};
+pub use page_examples::{
+    example_kept_codewords, example_page_words, example_payloads, example_stripe_sum,
+    example_stripes, example_values,
+};
 pub use page_laws::{
-    heads_differ, others_give_the_word, payloads_give_their_bytes, values_are_taken,
+    codes_make_a_word, heads_differ, others_give_the_word, payloads_give_their_bytes,
+    values_are_taken,
 };
 pub use place::Place;
 pub use policy_view::{PolicyKind, PolicyView};

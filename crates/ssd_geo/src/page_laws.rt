@@ -1,5 +1,6 @@
-//! Laws of payloads, values of senses and stripe sums. Each is the contract of a function that does nothing.
+//! Laws of payloads, codewords of a page, values of senses and stripe sums. Each is the contract of a function that does nothing.
 ghost use Rattle.ssd_geo.specs.PageHead.{PayloadsHaveTheirLength, PayloadsGiveTheirBytes, OnlyPayloadsGiveBytes, HeadsDiffer, SerialsNameTheirCalls};
+ghost use Rattle.ssd_geo.specs.PageWord.{CodesAreBack, OneCodeIsTheWord, PartsAreThePayload, WordsAreJoined};
 ghost use Rattle.ssd_geo.specs.Senses.{ValuesAreTaken, SensesStandInOrder, FiveSensesAreBack};
 ghost use Rattle.ssd_geo.specs.StripeSum.{OthersGiveTheWord, OneMoreWord, SumsHaveTheirLength};
 
@@ -14,6 +15,14 @@ pub fn payloads_give_their_bytes()
 pub fn heads_differ()
     ensures heads { HeadsDiffer }
     ensures serials { SerialsNameTheirCalls }
+{}
+
+/// The codewords of a page are found in its word, and the word is that of its codewords, which begins with its payload.
+pub fn codes_make_a_word()
+    ensures back { CodesAreBack }
+    ensures joined { WordsAreJoined }
+    ensures payload { PartsAreThePayload }
+    ensures one { OneCodeIsTheWord }
 {}
 
 /// The values of senses are from -127 to 127, one for each bit, and senses that stand one after the other are told

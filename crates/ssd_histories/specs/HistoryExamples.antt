@@ -1,12 +1,12 @@
 -- Which histories are worked out, to see that the rules say what is meant? All stand on one channel with three dies and
 -- four superblocks of two pages, so of four data slots each. The pages have a coding without a code: a
 -- word is the low bytes of its serial and row and the data, and a sense at which it is read is taken as it is.
-use Rattle.std.specs.Prelude.{ℕ, ◌%◌, nat_eq, false, true, List, [], ◌∷◌, map, replicate, Some, None, pos, negsuc}
+use Rattle.std.specs.Prelude.{ℕ, ◌%◌, nat_eq, false, true, List, [], ◌∷◌, flat_map, map, replicate, Some, None, pos, negsuc}
 use Rattle.std.specs.List.{starts_with, range_with_len}
 use Rattle.ssd_histories.specs.Blocks.{blank_block}
 use Rattle.ssd_geo.specs.Coding.{Coding}
 use Rattle.ssd_histories.specs.Lawful.{IsLawfulBy}
-use Rattle.ssd_geo.specs.Limits.{IsWithinLimits}
+use Rattle.ssd_geo.specs.Limits.{IsWithinLimits, Sizes}
 use Rattle.ssd_histories.specs.PageMap.{slot_at}
 use Rattle.ssd_histories.specs.PastPages.{ladder_of}
 use Rattle.ssd_histories.specs.History.{past_of}
@@ -19,14 +19,18 @@ use Rattle.ssd_geo.specs.declared.row.Row.{Row}
 use Rattle.ssd_geo.specs.declared.tag.Tag.{Tag}
 use Rattle.ssd_geo.specs.declared.weak.Weak.{Weak}
 
--- the channel's sizes are within the limits
+-- the channel's sizes
+abbrev pub small_sizes : Sizes
+small_sizes = record { words = 1; channels = 1; dies = 3; superblocks = 4; pages = 2; z = 64; mb = 3; nb = 6; bytes = 8; rows = 8 }
+
+-- they are within the limits
 abbrev pub AreWithinLimits : Type 0
-AreWithinLimits = IsWithinLimits 1 3 4 2 64 3 6 8 8
+AreWithinLimits = IsWithinLimits small_sizes
 
 -- the blank channel, with its weak blocks
 abbrev pub small_channel : List Weak → AreWithinLimits → ChannelBase
 small_channel weak within = record {
-  shape = record { channels = 1; dies = 3; superblocks = 4; pages = 2; z = 64; mb = 3; nb = 6; bytes = 8; rows = 8; within = within };
+  shape = record { words = 1; channels = 1; dies = 3; superblocks = 4; pages = 2; z = 64; mb = 3; nb = 6; bytes = 8; rows = 8; within = within };
   session = 0;
   blocks = replicate 4 blank_block;
   rows = replicate 8 Row.Empty;
@@ -57,10 +61,12 @@ plain_coding = record {
   encoded = λ serial row bytes. serial % 256 ∷ row ∷ bytes;
   has_head = λ serial row word. starts_with nat_eq word (serial % 256 ∷ row ∷ []);
   word_bytes = 3;
+  words = 1;
   levels = pos 0 ∷ negsuc 59 ∷ [];
   step = 10;
-  hard = λ sense. Some sense;
-  soft = λ five. None;
+  hard = λ sense f. Some sense;
+  soft = λ five f. None;
+  joined = flat_map (λ code. code);
   failed = λ word. 0;
 }
 

@@ -3,6 +3,8 @@
 -- policy's view where that is told; and for each entry that tells of a failed call of a die, that die counted a fault.
 use Rattle.std.specs.Prelude.{ℤ, pos, neg_ℤ, int_le, int_lt, nat_le, ℕ, ◌≡◌, ◌^◌, ◌*◌, ◌-◌, ◌%◌, ◌≤◌, ◌<◌, ◌==◌, nat_lt, Bool, true, false, ◌&&◌, not, IsTrue, List, length, All, count_by, slice_index_or, Option, Some, None, option_map}
 use Rattle.std.specs.List.{list_all, list_any}
+use Rattle.ssd_geo.specs.Limits.{page_cells_of}
+use Rattle.ssd_geo.specs.Shape.{sizes_of}
 use Rattle.ssd_geo.specs.BaseMatrix as BaseMatrix
 use Rattle.ssd_histories.specs.Blocks.{AreSound, block_at}
 use Rattle.ssd_histories.specs.CallSteps.{failed_die}
@@ -53,7 +55,7 @@ pub record IsDueBlock (start : Start) (die sb : ℕ) : Type 0 where
   pub erases :
       IsTrue (not (States.is_bad (block_at start.base.blocks sb).state))
       → (cells_at start die sb).erases ≡ (block_at start.base.blocks sb).erases
-  pub whole : All (λ levels. length levels ≡ start.base.shape.nb * start.base.shape.z) (cells_at start die sb).pages
+  pub whole : All (λ levels. length levels ≡ page_cells_of (sizes_of start.base.shape)) (cells_at start die sb).pages
 
 -- whether a stripe of the base is open: the frontier's, with some of its slots used
 abbrev pub has_open_stripe : ChannelBase → Bool

@@ -2,6 +2,8 @@
 -- what its dies told of their cells, their counts of faults, and the view of its policy where that was told. Contents
 -- are the data of writes: a list of tags with their data bytes.
 use Rattle.std.specs.Prelude.{ℕ, ◌*◌, true, false, List, [], ◌∷◌, replicate, slice_index_or, slice_get, ℤ, Option}
+use Rattle.ssd_geo.specs.Limits.{page_cells_of}
+use Rattle.ssd_geo.specs.Shape.{sizes_of}
 use Rattle.ssd_histories.specs.History.{is_same_tag}
 use Rattle.ssd_geo.specs.declared.base.ChannelBase.{ChannelBase}
 use Rattle.ssd_geo.specs.declared.place.Place.{Place}
@@ -37,7 +39,7 @@ image_page start place = slice_get (cells_at start place.die place.sb).pages pla
 
 -- the levels of an empty page: the erased one in each cell
 abbrev pub empty_levels : ChannelBase → List ℤ
-empty_levels base = replicate (base.shape.nb * base.shape.z) base.law.erased
+empty_levels base = replicate (page_cells_of (sizes_of base.shape)) base.law.erased
 
 -- the data of a call's write
 abbrev pub data_of : List (Tag × List ℕ) → Tag → List ℕ
