@@ -9,6 +9,7 @@ use Rattle.std.proofs.lemmas.List.Elements.{All-nil, All-cons, All-head, All-tai
 use Rattle.ssd_geo.specs.Coding.{Coding, coding_of}
 use Rattle.ssd_geo.specs.Ladder.{LadderState, asks, recovered, uncorrectable, has_answer}
 use Rattle.ssd_geo.specs.Limits.{payload_bytes_of}
+use Rattle.ssd_geo.specs.Shape.{sizes_of}
 use Rattle.ssd_geo.specs.PageHead.{are_zeros, data_of_word, head_of_page}
 use Rattle.ssd_geo.specs.declared.entry.Entry.{Entry}
 use Rattle.ssd_geo.specs.declared.kind.Kind.{Kind}
@@ -226,7 +227,7 @@ module _ (contents : List (Tag × List ℕ)) (run : ChannelRun) (written : IsWri
           let word_of : IsWordOf run.start.base look data_bytes recovery.word =
           recovered_reads_are_plain run.start contents run.past look recovery.rung recovery.word data_bytes written is copies recovery.is e in
           subst (GivesPlain (bytes data_bytes)) (replies recovery)
-          (bytes_given (payload_bytes_of run.start.base.shape.mb run.start.base.shape.nb run.start.base.shape.z) run.start.base.shape.bytes look.serial look.row
+          (bytes_given (payload_bytes_of (sizes_of run.start.base.shape)) run.start.base.shape.bytes look.serial look.row
           recovery.word data_bytes word_of.has_data)
 
   -- all steps of a read

@@ -3,15 +3,20 @@
 use Rattle.std.proofs.Common.{◌≡◌, ℕ, zero, suc, ◌+◌, ◌-◌, ◌*◌, ◌/◌, ◌%◌, ◌<◌, ◌≤◌, ◌==◌, Bool, false, cond, List, [], ◌∷◌, ◌++◌, length, get_or, take, drop, replicate, Some, refl, sym, ap, subst, ◌∙◌, arith, length-append}
 use Rattle.std.specs.Int.{bit_at}
 use Rattle.std.specs.List.{AllByRecursion, range_with_len}
-use Rattle.std.specs.Prelude.{flat_map}
-use Rattle.std.proofs.lemmas.List.{get_or_append_left, get_or-drop, get_or-take, length-drop, length-take-le, same_lists, take-append-drop}
+use Rattle.std.specs.Prelude.{flat_map, map}
+use Rattle.std.proofs.lemmas.List.{get_or_append_left, get_or-drop, get_or-take, length-drop, length-take-le, same_lists}
 use Rattle.std.proofs.lemmas.List.FromFn.{get_or-map-range_with_len, length-map-range_with_len}
+use Rattle.std.proofs.lemmas.Nat.{mul-le}
 use Rattle.std.proofs.lemmas.Nat.Bits.{bit_at-suc, bit_at_lowest}
 use Rattle.ssd_geo.specs.Bits.{bit_of, bits_of, byte_of, bytes_of, number_of}
-use Rattle.ssd_geo.specs.Codewords.{parity_block, payload_bits}
+use Rattle.ssd_geo.specs.BaseMatrix.{BaseMatrix}
+use Rattle.ssd_geo.specs.Codewords.{code_of, parity_block, payload_bits}
 use Rattle.ssd_geo.specs.Coding.{coding_of, matrix_of}
-use Rattle.ssd_geo.specs.Limits.{payload_bytes_of}
+use Rattle.ssd_geo.specs.Limits.{Sizes, part_bytes_of, payload_bytes_of}
 use Rattle.ssd_geo.specs.PageHead.{data_of_word, head_of_page, payload_of_page}
+use Rattle.ssd_geo.specs.PageWord.{part_in, word_of}
+use Rattle.ssd_geo.specs.Shape.{sizes_of}
+use Rattle.ssd_geo.proofs.PageWords.{parts_are_the_payload}
 use Rattle.ssd_geo.proofs.Payloads.{payloads_give_their_bytes, payloads_have_their_length}
 use Rattle.recovery_laws.specs.PageData.{WordsHaveData}
 
@@ -123,33 +128,80 @@ payload_small payload_length serial row data_bytes small =
     both_small (head_of_page serial row) (data_bytes ++ replicate (payload_length - (16 + length data_bytes)) 0) (head_small serial row)
     (both_small data_bytes (replicate (payload_length - (16 + length data_bytes)) 0) small (zeros_small (payload_length - (16 + length data_bytes))))
 
--- the data of a page, off the bytes of its payload's bits with more bits behind them
-data_found : (n bits serial row : ℕ) (data_bytes : List ℕ) (more : List Bool) → bits ≡ 8 * n → 16 + length data_bytes ≤ n → AreSmall data_bytes →
-    data_of_word n (length data_bytes) serial row (bytes_of (bits_of bits (payload_of_page n serial row data_bytes) ++ more)) ≡ Some data_bytes
-data_found n bits serial row data_bytes more whole room small =
-    ap (λ (count : ℕ). data_of_word n (length data_bytes) serial row (bytes_of (bits_of count payload ++ more))) whole
-    ∙ ap (data_of_word n (length data_bytes) serial row) (sym word_is)
-    ∙ payloads_give_their_bytes n serial row data_bytes (drop n word) room
-  where
-    payload : List ℕ
-    payload = payload_of_page n serial row data_bytes
+-- a part of small bytes
+small_rest : (n : ℕ) (bytes : List ℕ) → AreSmall bytes → AreSmall (drop n bytes)
+small_rest zero bytes small = small
+small_rest (suc n) [] small = tt
+small_rest (suc n) (byte ∷ bytes) small = small_rest n bytes small.1
 
-    word : List ℕ
-    word = bytes_of (bits_of (8 * n) payload ++ more)
+small_front : (n : ℕ) (bytes : List ℕ) → AreSmall bytes → AreSmall (take n bytes)
+small_front zero bytes small = tt
+small_front (suc n) [] small = tt
+small_front (suc n) (byte ∷ bytes) small = (small.0, small_front n bytes small.1)
 
-    word_is : payload ++ drop n word ≡ word
-    word_is =
-        ap (λ (front : List ℕ). front ++ drop n word)
-        (sym (begins n payload more (payloads_have_their_length n serial row data_bytes room) (each_small payload (payload_small n serial row data_bytes small))))
-        ∙ take-append-drop n word
+-- whole bytes, by their bits
+whole_bytes : (bits : ℕ) → bits % 8 ≡ 0 → bits ≡ 8 * (bits / 8)
+whole_bytes bits e = omega arith
+
+-- the codeword of a part begins with its bytes, whatever the matrix
+code_begins : (m : BaseMatrix) (n : ℕ) (part : List ℕ) → payload_bits m ≡ 8 * n → length part ≡ n → AreSmall part → take n (code_of m part) ≡ part
+code_begins m n part whole long small =
+    let more : List Bool = flat_map (parity_block m (bits_of (payload_bits m) part)) (range_with_len 0 m.mb) in
+    ap (λ (count : ℕ). take n (bytes_of (bits_of count part ++ more))) whole ∙ begins n part more long (each_small part small)
+
+-- a page's word begins with the parts of its codewords, and so with its payload
+module _ (sizes : Sizes) (m : BaseMatrix) (whole : payload_bits m ≡ 8 * part_bytes_of sizes) (payload : List ℕ) (long : length payload ≡ payload_bytes_of sizes) (small : AreSmall payload) where
+  part_long : (f : ℕ) → f < sizes.words → length (part_in sizes payload f) ≡ part_bytes_of sizes
+  part_long f low =
+      let n : ℕ = part_bytes_of sizes in
+      let fits : (f + 1) * n ≤ sizes.words * n = mul-le (f + 1) n sizes.words n (omega arith) (omega arith) in
+      let one : (f + 1) * n ≡ f * n + n = next_part f n in
+      let taken : (f + 1) * n - f * n ≡ n = omega arith in
+      ap (λ (k : ℕ). length (take k (drop (f * n) payload))) taken
+      ∙ length-take-le n (drop (f * n) payload) (omega (arith, length-drop (f * n) payload, long))
+    where
+      next_part : (f n : ℕ) → (f + 1) * n ≡ f * n + n
+      next_part f n = omega arith
+
+  part_small : (f : ℕ) → AreSmall (part_in sizes payload f)
+  part_small f =
+      small_front ((f + 1) * part_bytes_of sizes - f * part_bytes_of sizes) (drop (f * part_bytes_of sizes) payload)
+      (small_rest (f * part_bytes_of sizes) payload small)
+
+  parts_in_front : (a k : ℕ) → a + k ≤ sizes.words →
+      flat_map (take (part_bytes_of sizes)) (map (λ f. code_of m (part_in sizes payload f)) (range_with_len a k))
+      ≡ flat_map (part_in sizes payload) (range_with_len a k)
+  parts_in_front a zero within = refl
+  parts_in_front a (suc k) within =
+      let others : List (List ℕ) = map (λ f. code_of m (part_in sizes payload f)) (range_with_len (a + 1) k) in
+      ap (λ (front : List ℕ). front ++ flat_map (take (part_bytes_of sizes)) others)
+      (code_begins m (part_bytes_of sizes) (part_in sizes payload a) whole (part_long a (omega arith)) (part_small a))
+      ∙ ap (λ (rest : List ℕ). part_in sizes payload a ++ rest) (parts_in_front (a + 1) k (omega arith))
+
+  pub payload_first : payload ++ flat_map (drop (part_bytes_of sizes)) (map (λ f. code_of m (part_in sizes payload f)) (range_with_len 0 sizes.words)) ≡ word_of sizes m payload
+  payload_first =
+      let behind : List ℕ =
+      flat_map (drop (part_bytes_of sizes)) (map (λ f. code_of m (part_in sizes payload f)) (range_with_len 0 sizes.words)) in
+      ap (λ (front : List ℕ). front ++ behind)
+      (sym (parts_in_front 0 sizes.words (omega arith) ∙ parts_are_the_payload sizes payload long))
+
+-- the data of a page, off its word
+data_found : (sizes : Sizes) (m : BaseMatrix) (serial row : ℕ) (data_bytes : List ℕ) → payload_bits m ≡ 8 * part_bytes_of sizes →
+    16 + length data_bytes ≤ payload_bytes_of sizes → AreSmall data_bytes →
+    data_of_word (payload_bytes_of sizes) (length data_bytes) serial row
+    (word_of sizes m (payload_of_page (payload_bytes_of sizes) serial row data_bytes)) ≡ Some data_bytes
+data_found sizes m serial row data_bytes whole room small =
+    let n : ℕ = payload_bytes_of sizes in
+    let payload : List ℕ = payload_of_page n serial row data_bytes in
+    let behind : List ℕ =
+    flat_map (drop (part_bytes_of sizes)) (map (λ f. code_of m (part_in sizes payload f)) (range_with_len 0 sizes.words)) in
+    ap (data_of_word n (length data_bytes) serial row)
+    (sym (payload_first sizes m whole payload (payloads_have_their_length n serial row data_bytes room) (payload_small n serial row data_bytes small)))
+    ∙ payloads_give_their_bytes n serial row data_bytes behind room
 
 pub words_have_data : WordsHaveData
 words_have_data base serial row data_bytes is_data =
-    let n : ℕ = payload_bytes_of base.shape.mb base.shape.nb base.shape.z in
-    let bits : List Bool = bits_of (payload_bits (matrix_of base)) (payload_of_page n serial row data_bytes) in
-    subst (λ (count : ℕ). data_of_word n count serial row ((coding_of base).encoded serial row data_bytes) ≡ Some data_bytes) is_data.long
-    (data_found n (payload_bits (matrix_of base)) serial row data_bytes (flat_map (parity_block (matrix_of base) bits) (range_with_len 0 base.shape.mb))
+    let sizes : Sizes = sizes_of base.shape in
+    subst (λ (count : ℕ). data_of_word (payload_bytes_of sizes) count serial row ((coding_of base).encoded serial row data_bytes) ≡ Some data_bytes) is_data.long
+    (data_found sizes (matrix_of base) serial row data_bytes
     (whole_bytes (payload_bits (matrix_of base)) base.shape.within.whole_payload_bytes) (omega (arith, is_data.long, base.shape.within.bytes_high)) is_data.small)
-  where
-    whole_bytes : (bits : ℕ) → bits % 8 ≡ 0 → bits ≡ 8 * (bits / 8)
-    whole_bytes bits e = omega arith
