@@ -10,6 +10,7 @@ use Rattle.ssd_histories.specs.Blocks.{AreSound, block_at}
 use Rattle.ssd_histories.specs.CallSteps.{failed_die}
 use Rattle.ssd_geo.specs.Coding.{matrix_of, word_bytes_in}
 use Rattle.ssd_geo.specs.Codewords.{IsCodeword}
+use Rattle.ssd_geo.specs.PageWord.{code_in}
 use Rattle.ssd_geo.specs.Faults.{NeverFell, RoseBy}
 use Rattle.ssd_histories.specs.FollowedViews.{FollowsTold, view_of}
 use Rattle.ssd_histories.specs.Lawful.{IsLawful}
@@ -92,7 +93,8 @@ pub record IsStart (start : Start) : Type 0 where
   pub rows_used : All (λ row. IsTrue (names_used start.base row)) start.base.rows
   pub sum_bytes : length start.base.sum ≡ word_bytes_in start.base.shape
   pub sum_of_none : IsTrue (not (has_open_stripe start.base)) → start.base.sum ≡ zero_word (word_bytes_in start.base.shape)
-  pub sum_codeword : IsCodeword (matrix_of start.base) start.base.sum
+  pub sum_codewords :
+      (f : ℕ) → f < start.base.shape.words → IsCodeword (matrix_of start.base) (code_in (sizes_of start.base.shape) start.base.sum f)
   pub fields : HasFields start.base
   pub limit_low : 256 ≤ start.limit
   pub limit_high : start.limit ≤ 2 ^ 22
