@@ -76,7 +76,7 @@ byte_is n payload more j long lt small =
     bit_number j i low = omega arith
 
 -- so the bytes of these bits begin with the bytes
-begins : (n : ℕ) (payload : List ℕ) (more : List Bool) → length payload ≡ n → ((i : ℕ) → get_or payload i 0 < 256) →
+pub begins : (n : ℕ) (payload : List ℕ) (more : List Bool) → length payload ≡ n → ((i : ℕ) → get_or payload i 0 < 256) →
     take n (bytes_of (bits_of (8 * n) payload ++ more)) ≡ payload
 begins n payload more long small =
     same_lists (take n bytes) payload (taken ∙ sym long)
@@ -103,10 +103,10 @@ begins n payload more long small =
     any_default (x ∷ xs) zero d lt = refl
     any_default (x ∷ xs) (suc j) d lt = any_default xs j d (omega arith)
 
-abbrev AreSmall : List ℕ → Type 0
+abbrev pub AreSmall : List ℕ → Type 0
 AreSmall bytes = AllByRecursion (λ byte. byte < 256) bytes
 
-both_small : (xs ys : List ℕ) → AreSmall xs → AreSmall ys → AreSmall (xs ++ ys)
+pub both_small : (xs ys : List ℕ) → AreSmall xs → AreSmall ys → AreSmall (xs ++ ys)
 both_small [] ys of_xs of_ys = of_ys
 both_small (x ∷ xs) ys of_xs of_ys = (of_xs.0, both_small xs ys of_xs.1 of_ys)
 
@@ -114,7 +114,7 @@ zeros_small : (n : ℕ) → AreSmall (replicate n 0)
 zeros_small zero = tt
 zeros_small (suc n) = (omega arith, zeros_small n)
 
-each_small : (bytes : List ℕ) → AreSmall bytes → (i : ℕ) → get_or bytes i 0 < 256
+pub each_small : (bytes : List ℕ) → AreSmall bytes → (i : ℕ) → get_or bytes i 0 < 256
 each_small [] small i = omega arith
 each_small (byte ∷ bytes) small zero = small.0
 each_small (byte ∷ bytes) small (suc i) = each_small bytes small.1 i
@@ -123,24 +123,24 @@ head_small : (serial row : ℕ) → AreSmall (head_of_page serial row)
 head_small serial row =
     (omega arith, (omega arith, (omega arith, (omega arith, (omega arith, (omega arith, (omega arith, (omega arith, (omega arith, (omega arith, (omega arith, (omega arith, (omega arith, (omega arith, (omega arith, (omega arith, tt))))))))))))))))
 
-payload_small : (payload_length serial row : ℕ) (data_bytes : List ℕ) → AreSmall data_bytes → AreSmall (payload_of_page payload_length serial row data_bytes)
+pub payload_small : (payload_length serial row : ℕ) (data_bytes : List ℕ) → AreSmall data_bytes → AreSmall (payload_of_page payload_length serial row data_bytes)
 payload_small payload_length serial row data_bytes small =
     both_small (head_of_page serial row) (data_bytes ++ replicate (payload_length - (16 + length data_bytes)) 0) (head_small serial row)
     (both_small data_bytes (replicate (payload_length - (16 + length data_bytes)) 0) small (zeros_small (payload_length - (16 + length data_bytes))))
 
 -- a part of small bytes
-small_rest : (n : ℕ) (bytes : List ℕ) → AreSmall bytes → AreSmall (drop n bytes)
+pub small_rest : (n : ℕ) (bytes : List ℕ) → AreSmall bytes → AreSmall (drop n bytes)
 small_rest zero bytes small = small
 small_rest (suc n) [] small = tt
 small_rest (suc n) (byte ∷ bytes) small = small_rest n bytes small.1
 
-small_front : (n : ℕ) (bytes : List ℕ) → AreSmall bytes → AreSmall (take n bytes)
+pub small_front : (n : ℕ) (bytes : List ℕ) → AreSmall bytes → AreSmall (take n bytes)
 small_front zero bytes small = tt
 small_front (suc n) [] small = tt
 small_front (suc n) (byte ∷ bytes) small = (small.0, small_front n bytes small.1)
 
 -- whole bytes, by their bits
-whole_bytes : (bits : ℕ) → bits % 8 ≡ 0 → bits ≡ 8 * (bits / 8)
+pub whole_bytes : (bits : ℕ) → bits % 8 ≡ 0 → bits ≡ 8 * (bits / 8)
 whole_bytes bits e = omega arith
 
 -- the codeword of a part begins with its bytes, whatever the matrix

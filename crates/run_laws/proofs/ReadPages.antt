@@ -1,6 +1,6 @@
 -- The page that a row names is read from the first sense of a look: the ladder asks for it, and recovers the page with it.
 use Rattle.std.proofs.Common.{◌≡◌, ℕ, suc, ◌≤◌, ◌==◌, Bool, true, false, List, [], ◌∷◌, ◌++◌, length, refl, ap, sym, ◌∙◌, Option, Some, None, ℤ, arith}
-use Rattle.std.specs.Prelude.{slice_get}
+use Rattle.std.specs.Prelude.{option_map, slice_get}
 use Rattle.std.proofs.lemmas.Bool.Decides.{nat_tests}
 use Rattle.ssd_geo.specs.declared.entry.Entry.{Entry}
 use Rattle.ssd_geo.specs.declared.look.Look.{Look}
@@ -10,7 +10,7 @@ use Rattle.ssd_geo.specs.declared.tag.Tag.{Tag}
 use Rattle.ssd_geo.specs.Cells.{sensed}
 use Rattle.ssd_geo.specs.Coding.{Coding, coding_of}
 use Rattle.ssd_histories.specs.History.{look_of}
-use Rattle.ssd_geo.specs.Ladder.{asks, other_places, recovered, ladder_over}
+use Rattle.ssd_geo.specs.Ladder.{all_kept, asks, kept_with, ladder_over, none_kept, other_places, recovered}
 use Rattle.ssd_histories.specs.PastPages.{ladder_of, levels_in, page_of, senses_of}
 use Rattle.ssd_histories.specs.PlainMap.{bytes, plain_of}
 use Rattle.ssd_histories.specs.Replies.{bytes_of_word}
@@ -83,7 +83,7 @@ look_asks coding start contents tag row slot serial closed level past is_first n
 sense_recovers : (coding : Coding) (start : Start) (contents : List (Tag × List ℕ)) (tag : Tag) (row : ℕ) (slot : Slot) (serial : ℕ) (closed : Bool) (level : ℤ) (past : List Entry) (word : List ℕ)
     → slice_get coding.levels 0 ≡ Some level → senses_of coding start contents past (length past) ≡ []
     → sensed level (levels_in start.base (page_of coding start contents past (place_of_slot start.base.shape.dies slot))) ≡ word
-    → coding.hard word ≡ Some word → coding.has_head serial row word ≡ true
+    → option_map coding.joined (all_kept (kept_with (coding.hard word) 0 (none_kept coding))) ≡ Some word → coding.has_head serial row word ≡ true
     → ladder_of coding start contents (after_sense start.base.shape.dies tag row slot serial closed level past) (length past) ≡ recovered 0 word
 sense_recovers coding start contents tag row slot serial closed level past word is_first none sense_is is_found has_head =
     let dies : ℕ = start.base.shape.dies in

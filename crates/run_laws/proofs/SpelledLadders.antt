@@ -8,7 +8,7 @@ use Rattle.std.proofs.lemmas.Int.{ints}
 use Rattle.ssd_formats.specs.ImageHead.{is_short}
 use Rattle.ssd_geo.specs.Bits.{bytes_sum}
 use Rattle.ssd_geo.specs.Coding.{Coding}
-use Rattle.ssd_geo.specs.Ladder.{LadderState, PlaceState, accepted, asks, best_level, fails_fewest, found, hard_work, ladder_over, missed, other_places, place_work, recovered, soft_levels, soft_work, stripe_work, uncorrectable, wants}
+use Rattle.ssd_geo.specs.Ladder.{LadderState, PlaceState, asks, best_level, fails_fewest, found, hard_work, ladder_over, missed, other_places, place_work, recovered, soft_levels, soft_work, stripe_work, uncorrectable, wants, PageState, none_kept, page_decoded, partly, whole}
 use Rattle.ssd_geo.specs.Limits.{is_level}
 use Rattle.ssd_geo.specs.Stripe.{place_of_slot}
 use Rattle.ssd_geo.specs.StripeSum.{zero_word}
@@ -92,40 +92,45 @@ best_is_mild test (level ∷ levels) (sense ∷ senses) all =
     by_test false here there = there
 
 module _ (coding : Coding) (are_levels : list_all is_level coding.levels ≡ true) (small : coding.step ≤ 2047) where
-  decided : (word : Option (List ℕ)) (rung : ℕ) (left : List (List ℕ)) (after : PlaceState) → WantsShort after →
-      WantsShort (elim word [ Some it ↦ found rung it left | None ↦ after ])
-  decided (Some word) rung left after short = tt
-  decided None rung left after short = short
+  decided : (state : PageState) (rung : ℕ) (left : List (List ℕ)) (after : List (Option (List ℕ)) → PlaceState) →
+      ((kept : List (Option (List ℕ))) → WantsShort (after kept)) →
+      WantsShort (elim state [ whole word ↦ found rung word left | partly now ↦ after now ])
+  decided (whole word) rung left after short = tt
+  decided (partly now) rung left after short = short now
 
-  soft_short : (accepts : List ℕ → Bool) (center : ℤ) → IsMild center → (senses : List (List ℕ)) →
-      WantsShort (soft_work coding accepts center senses)
-  soft_short accepts center mild senses = by_test (nat_lt (length senses) 5)
+  soft_short : (accepts : List ℕ → Bool) (center : ℤ) → IsMild center → (kept : List (Option (List ℕ))) (senses : List (List ℕ)) →
+      WantsShort (soft_work coding accepts center kept senses)
+  soft_short accepts center mild kept senses = by_test (nat_lt (length senses) 5)
     where
       by_test : (b : Bool) → WantsShort (elim b [
         | true ↦ wants (slice_index_or (soft_levels coding.step center) (length senses) center)
-        | false ↦ elim (accepted accepts (coding.soft (take 5 senses))) [
-          | Some word ↦ found (length coding.levels) word (drop 5 senses)
-          | None ↦ missed (drop 5 senses)
+        | false ↦ elim (page_decoded coding accepts (coding.soft (take 5 senses)) kept) [
+          | whole word ↦ found (length coding.levels) word (drop 5 senses)
+          | partly now ↦ missed (drop 5 senses)
         ]
       ])
       by_test true = soft_is_short coding.step small center mild (length senses)
-      by_test false = decided (accepted accepts (coding.soft (take 5 senses))) (length coding.levels) (drop 5 senses) (missed (drop 5 senses)) tt
+      by_test false =
+          decided (page_decoded coding accepts (coding.soft (take 5 senses)) kept) (length coding.levels) (drop 5 senses)
+          (λ now. missed (drop 5 senses)) (λ now. tt)
 
-  hard_short : (accepts : List ℕ → Bool) (after : List (List ℕ) → PlaceState) → ((senses : List (List ℕ)) → WantsShort (after senses)) →
-      (levels : List ℤ) → list_all is_level levels ≡ true → (rung : ℕ) (senses : List (List ℕ)) →
-      WantsShort (hard_work coding accepts after levels rung senses)
-  hard_short accepts after short [] all rung senses = short senses
-  hard_short accepts after short (level ∷ levels) all rung [] =
+  hard_short : (accepts : List ℕ → Bool) (after : List (Option (List ℕ)) → List (List ℕ) → PlaceState) →
+      ((kept : List (Option (List ℕ))) (senses : List (List ℕ)) → WantsShort (after kept senses)) →
+      (levels : List ℤ) → list_all is_level levels ≡ true → (rung : ℕ) (kept : List (Option (List ℕ))) (senses : List (List ℕ)) →
+      WantsShort (hard_work coding accepts after levels rung kept senses)
+  hard_short accepts after short [] all rung kept senses = short kept senses
+  hard_short accepts after short (level ∷ levels) all rung kept [] =
       mild_is_short level (is_mild level (and_parts (is_level level) (list_all is_level levels) all).0)
-  hard_short accepts after short (level ∷ levels) all rung (sense ∷ senses) =
-      decided (accepted accepts (coding.hard sense)) rung senses (hard_work coding accepts after levels (rung + 1) senses)
-      (hard_short accepts after short levels (and_parts (is_level level) (list_all is_level levels) all).1 (rung + 1) senses)
+  hard_short accepts after short (level ∷ levels) all rung kept (sense ∷ senses) =
+      decided (page_decoded coding accepts (coding.hard sense) kept) rung senses
+      (λ now. hard_work coding accepts after levels (rung + 1) now senses)
+      (λ now. hard_short accepts after short levels (and_parts (is_level level) (list_all is_level levels) all).1 (rung + 1) now senses)
 
   place_short : (accepts : List ℕ → Bool) (senses : List (List ℕ)) → WantsShort (place_work coding accepts senses)
   place_short accepts senses =
       hard_short accepts (soft_work coding accepts (best_level coding senses))
       (soft_short accepts (best_level coding senses) (best_is_mild (fails_fewest coding (zip coding.levels senses)) coding.levels senses are_levels))
-      coding.levels are_levels 0 senses
+      coding.levels are_levels 0 (none_kept coding) senses
 
   sum_short : (sum : List ℕ) (b : Bool) →
       AsksShort (elim b [ true ↦ recovered (length coding.levels + 1) sum | false ↦ uncorrectable ])

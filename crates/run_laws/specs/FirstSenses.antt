@@ -1,9 +1,9 @@
 -- When is a page read from the first sense of its look? Where the fresh cells of each word give it back at the first read level, and
 -- no block was aged since, the ladder asks for that sense alone, and the read gives the data of the row's latest write.
-use Rattle.std.specs.Prelude.{ℕ, ◌≡◌, ◌≢◌, ◌<◌, Bool, true, List, ◌∷◌, length, slice_get, Some, All, ℤ, ⊤}
+use Rattle.std.specs.Prelude.{ℕ, ◌≡◌, ◌≢◌, ◌<◌, Bool, true, List, ◌∷◌, length, option_map, slice_get, Some, All, ℤ, ⊤}
 use Rattle.ssd_geo.specs.Cells.{fresh_levels, sensed}
 use Rattle.ssd_geo.specs.Coding.{coding_of}
-use Rattle.ssd_geo.specs.Ladder.{asks, recovered}
+use Rattle.ssd_geo.specs.Ladder.{all_kept, asks, kept_with, none_kept, recovered}
 use Rattle.ssd_histories.specs.PastPages.{ladder_of, sense_of}
 use Rattle.ssd_histories.specs.PastRows.{row_of}
 use Rattle.ssd_histories.specs.PlainMap.{bytes, plain_of}
@@ -21,14 +21,16 @@ use Rattle.ssd_histories.specs.ServedCalls.{after_look}
 use Rattle.run_laws.specs.ServedPasts.{IsPlainPast}
 use Rattle.ssd_histories.specs.LastWrites.{IsData}
 
--- what the fresh cells of a page's word give at the first read level: the word, which is found at once and has the page's
--- head and data
+-- what the fresh cells of a page's word give at the first read level: the word, whose codewords are all found at once, and
+-- which has the page's head and data
 pub record WordIsRead (base : ChannelBase) (level : ℤ) (serial row : ℕ) (data_bytes : List ℕ) : Type 0 where
   pub sense_is :
       (page erases : ℕ) → sensed level (fresh_levels base.law page erases ((coding_of base).encoded serial row data_bytes))
       ≡ (coding_of base).encoded serial row data_bytes
   pub is_found :
-      (coding_of base).hard ((coding_of base).encoded serial row data_bytes) ≡ Some ((coding_of base).encoded serial row data_bytes)
+      option_map (coding_of base).joined
+      (all_kept (kept_with ((coding_of base).hard ((coding_of base).encoded serial row data_bytes)) 0 (none_kept (coding_of base))))
+      ≡ Some ((coding_of base).encoded serial row data_bytes)
   pub fails_none : (coding_of base).failed ((coding_of base).encoded serial row data_bytes) ≡ 0
   pub has_head : (coding_of base).has_head serial row ((coding_of base).encoded serial row data_bytes) ≡ true
   pub has_data : bytes_of_word base.shape.bytes ((coding_of base).encoded serial row data_bytes) ≡ data_bytes

@@ -19,14 +19,15 @@ use Rattle.run_laws.specs.WrittenRoom.{HasBlankBlocks}
 use Rattle.run_laws.proofs.BegunRuns.{serving_begins}
 use Rattle.ssd_geo.specs.BaseMatrix.{IsAccepted, MatrixFault}
 use Rattle.ssd_geo.specs.Coding as Coding
-use Rattle.ssd_geo.specs.Limits.{is_within, cells_of}
+use Rattle.ssd_geo.specs.Limits.{Sizes, cells_of, is_column_count, is_within}
 use Rattle.ssd_geo.specs.Faults.{NeverFell, RoseBy}
 use Rattle.ssd_geo.specs.declared.shape.Shape.{Shape}
 use Rattle.ssd_histories.specs.HistoryRoom.{found_room}
 use Rattle.ssd_histories.specs.Standing.{CountsFaults, count_at}
 use Rattle.ssd_formats.specs.ImageContents.{ChannelImage, blank_channel, blank_saved, cells_of_block, cells_of_saved}
 use Rattle.ssd_formats.specs.HistoryText.{is_spelled_entry}
-use Rattle.ssd_formats.specs.ImageHead.{Head, IsHead, Sizes, is_column_count, matrix_of_head, sizes_of}
+use Rattle.ssd_formats.specs.ImageHead.{Head, IsHead, matrix_of_head}
+use Rattle.ssd_geo.specs.Shape.{sizes_of}
 use Rattle.ssd_formats.specs.Input.{Input}
 use Rattle.ssd_histories.specs.Start.{BlockCells, Start, blank_cells}
 use Rattle.ssd_geo.specs.declared.entry.Entry.{Entry}
@@ -199,18 +200,18 @@ first_of_four : (a b c d : Bool) → (a && b && c && d) ≡ true → a ≡ true
 first_of_four true b c d e = refl
 first_of_four false b c d e = absurd (cc)
 
-columns_are : (channels dies superblocks pages z mb nb : ℕ) → is_column_count channels dies superblocks pages z mb nb ≡ true → (mb + 1 ≤ nb) × (nb ≤ 128)
-columns_are channels dies superblocks pages z mb nb e =
-    range_is (mb + 1) 128 nb
-    (first_of_four (is_within (mb + 1) 128 nb) ((nb - mb) * z % 8 == 0) (nb * z % 8 == 0) (nat_le (cells_of channels dies superblocks pages z nb) (2 ^ 28)) e)
+columns_are : (sizes : Sizes) → is_column_count sizes ≡ true → (sizes.mb + 1 ≤ sizes.nb) × (sizes.nb ≤ 128)
+columns_are sizes e =
+    range_is (sizes.mb + 1) 128 sizes.nb
+    (first_of_four (is_within (sizes.mb + 1) 128 sizes.nb) ((sizes.nb - sizes.mb) * sizes.z % 8 == 0) (sizes.nb * sizes.z % 8 == 0)
+    (nat_le (cells_of sizes) (2 ^ 28)) e)
 
 -- the base matrix of a head has a code
 head_accepted : (head : Head) → IsHead head → IsAccepted (matrix_of_head head)
 head_accepted head ok =
     let z = range_is 4 1024 head.sizes.z ok.lifting in
     let mb = range_is 3 16 head.sizes.mb ok.base_rows in
-    let nb =
-    columns_are head.sizes.channels head.sizes.dies head.sizes.superblocks head.sizes.pages head.sizes.z head.sizes.mb head.sizes.nb ok.base_columns in
+    let nb = columns_are head.sizes ok.base_columns in
     record {
       within = record {
         z_low = z.0;
@@ -238,7 +239,7 @@ module _ (head : Head) (ok : IsHead head) (worker : WorkerState) (is_worker : Is
       } in
       record {
         no_page = begun.is_base.rows ∙ ap (λ (sizes : Sizes). replicate sizes.rows Row.Empty) (sym begun.is_base.shape);
-        words_give_data = words_give_data begun.base (subst IsAccepted (sym same_matrix) (head_accepted head ok));
+        words_give_data = words_give_data begun.base;
       }
 
   -- and the worker works for them

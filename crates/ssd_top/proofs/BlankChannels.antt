@@ -7,7 +7,8 @@ use Rattle.std.proofs.lemmas.List.Folds.{sum_by-zero}
 use Rattle.std.proofs.lemmas.List.FromFn.{length-range_with_len, map-range_with_len_more}
 use Rattle.std.proofs.lemmas.Simd.{map-map}
 use Rattle.ssd_histories.specs.Blocks.{has_due_used}
-use Rattle.ssd_formats.specs.ImageContents.{SavedBlock, blank_channel, blank_saved, blocks_of_saved, cells_of_block, cells_of_saved, is_stripe_open, is_factory_bad, sum_of_saved, word_bytes_of_sizes}
+use Rattle.ssd_formats.specs.ImageContents.{SavedBlock, blank_channel, blank_saved, blocks_of_saved, cells_of_block, cells_of_saved, is_stripe_open, is_factory_bad, sum_of_saved}
+use Rattle.ssd_geo.specs.Limits.{word_bytes_of}
 use Rattle.ssd_formats.specs.ImageHead.{Head}
 use Rattle.ssd_histories.specs.Start.{BlockCells, blank_cells}
 use Rattle.ssd_histories.specs.States.{is_frontier, is_victim}
@@ -79,9 +80,9 @@ none_open head channel sb =
 
 -- so its running sum is all 0
 pub blank_sum : (head : Head) (channel : ℕ) →
-    sum_of_saved head.sizes (blank_channel head channel) ≡ zero_word (word_bytes_of_sizes head.sizes)
+    sum_of_saved head.sizes (blank_channel head channel) ≡ zero_word (word_bytes_of head.sizes)
 blank_sum head channel =
-    ap (λ (found : Option SavedBlock). option_map_or (λ (block : SavedBlock). block.sum) found (zero_word (word_bytes_of_sizes head.sizes)))
+    ap (λ (found : Option SavedBlock). option_map_or (λ (block : SavedBlock). block.sum) found (zero_word (word_bytes_of head.sizes)))
     (none_found (λ (block : SavedBlock). is_stripe_open head.sizes block.block) (blank_saved head channel) (none_open head channel)
     (range_with_len 0 head.sizes.superblocks))
 

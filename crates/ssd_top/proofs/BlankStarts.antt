@@ -13,11 +13,13 @@ use Rattle.ssd_geo.specs.Coding.{matrix_of, word_bytes_in}
 use Rattle.ssd_geo.specs.Bits.{bits_of}
 use Rattle.ssd_geo.specs.Codewords.{is_odd_row, word_bits}
 use Rattle.ssd_formats.specs.ImageContents.{IsBaseOf, blank_channel, is_factory_bad}
-use Rattle.ssd_formats.specs.ImageHead.{Head, IsHead, Sizes, are_weak_records, comes_after, is_weak_before, is_weak_record}
+use Rattle.ssd_formats.specs.ImageHead.{Head, IsHead, are_weak_records, comes_after, is_weak_before, is_weak_record}
 use Rattle.ssd_histories.specs.PageMap.{NameApart, names_slot, names_within, row_at}
 use Rattle.ssd_histories.specs.PastBlocks.{slots_in}
 use Rattle.ssd_histories.specs.Standing.{HasFields, IsDueBlock, IsStart, names_used}
-use Rattle.ssd_geo.specs.Limits.{is_within, is_level}
+use Rattle.ssd_geo.specs.Limits.{Sizes, is_within, is_level, page_cells_of, word_bytes_of}
+use Rattle.ssd_geo.specs.PageWord.{code_in}
+use Rattle.ssd_geo.specs.Shape.{sizes_of}
 use Rattle.ssd_histories.specs.Start.{BlockCells, Start, blank_cells, cells_at}
 use Rattle.ssd_geo.specs.StripeSum.{zero_word}
 use Rattle.ssd_geo.specs.Superblock.{due_pages}
@@ -31,7 +33,7 @@ use Rattle.ssd_formats.proofs.HeadLaws.{below_is, both_of, within_is}
 use Rattle.ssd_formats.proofs.SpelledHeads.{never}
 use Rattle.ssd_geo.proofs.Stripes.{due_pages_ends}
 use Rattle.ssd_top.proofs.BlankChannels.{blank_block_of, blank_sum, blocks_are, each_passes, no_frontier, no_victim, none_counted, none_used}
-use Rattle.ssd_top.proofs.ZeroWords.{zero_codeword}
+use Rattle.ssd_top.proofs.ZeroWords.{zero_codewords}
 
 -- the base of a blank channel
 abbrev pub IsBlankBase : Head → ℕ → ChannelBase → Type 0
@@ -118,7 +120,7 @@ rows_used head channel base b =
 sum_of_base : (head : Head) (channel : ℕ) (base : ChannelBase) → IsBlankBase head channel base →
     base.sum ≡ zero_word (word_bytes_in base.shape)
 sum_of_base head channel base b =
-    b.sum ∙ blank_sum head channel ∙ ap (λ (sizes : Sizes). zero_word (sizes.nb * sizes.z / 8)) (sym b.shape)
+    b.sum ∙ blank_sum head channel ∙ ap (λ (sizes : Sizes). zero_word (word_bytes_of sizes)) (sym b.shape)
 
 -- its matrix
 abbrev matrix_by : Sizes → List ℤ → BaseMatrix
@@ -206,7 +208,7 @@ block_due head channel start die sb b cells in_dies in_blocks =
     let due : due_pages start.base.shape.dies sb (block_at start.base.blocks sb).used die ≡ 0 =
     ap (λ (n : ℕ). due_pages start.base.shape.dies sb n die) used
     ∙ (due_pages_ends start.base.shape.dies sb start.base.shape.pages die (omega (arith, start.base.shape.within.dies_low))).none in
-    let whole : List (List ℤ) → Type 0 = λ (all : List (List ℤ)). All (λ (levels : List ℤ). length levels ≡ start.base.shape.nb * start.base.shape.z) all in
+    let whole : List (List ℤ) → Type 0 = λ (all : List (List ℤ)). All (λ (levels : List ℤ). length levels ≡ page_cells_of (sizes_of start.base.shape)) all in
     record {
       at_least = omega arith;
       at_most = omega arith;
@@ -234,9 +236,11 @@ blank_is_start head h channel c start b cells low high =
       rows_used = rows_used head channel base b;
       sum_bytes = ap (λ (word : List ℕ). length word) sum ∙ length-replicate (word_bytes_in base.shape) 0;
       sum_of_none = λ _. sum;
-      sum_codeword = λ i r in_rows in_layer.
-          ap (λ (word : List ℕ). is_odd_row (matrix_of base) (bits_of (word_bits (matrix_of base)) word) i r) sum
-          ∙ zero_codeword (matrix_of base) (word_bytes_in base.shape) i r in_rows in_layer;
+      sum_codewords = λ f below i r in_rows in_layer.
+          ap
+          (λ (word : List ℕ). is_odd_row (matrix_of base) (bits_of (word_bits (matrix_of base)) (code_in (sizes_of base.shape) word f)) i r)
+          sum
+          ∙ zero_codewords (sizes_of base.shape) (matrix_of base) (word_bytes_in base.shape) f i r in_rows in_layer;
       fields = fields_of_base head channel base h c b;
       limit_low = low;
       limit_high = high;

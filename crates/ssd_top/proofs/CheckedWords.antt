@@ -17,7 +17,7 @@ count_none test a (suc n) each =
     (sym first) rest
 
 -- a sum of zeros
-sum_none : (f : ℕ → ℕ) (a n : ℕ) → ((k : ℕ) → a ≤ k → k < a + n → f k ≡ 0) → sum_by f (range_with_len a n) ≡ 0
+pub sum_none : (f : ℕ → ℕ) (a n : ℕ) → ((k : ℕ) → a ≤ k → k < a + n → f k ≡ 0) → sum_by f (range_with_len a n) ≡ 0
 sum_none f a zero each = refl
 sum_none f a (suc n) each =
     let first : f a ≡ 0 = each a (omega arith) (omega arith) in

@@ -7,7 +7,8 @@ use Rattle.std.proofs.lemmas.List.{length-append, length-replicate, length-take-
 use Rattle.std.specs.Int.{w64, to_le_bytes}
 use Rattle.std.specs.List.{range_with_len}
 use Rattle.std.specs.Prelude.{All}
-use Rattle.ssd_formats.specs.ImageHead.{Sizes, sizes_of}
+use Rattle.ssd_geo.specs.Limits.{Sizes}
+use Rattle.ssd_geo.specs.Shape.{sizes_of}
 use Rattle.ssd_geo.specs.Noise.{noise_word}
 use Rattle.ssd_formats.specs.TraceText.{content_bytes}
 use Rattle.ssd_geo.specs.declared.shape.Shape.{Shape}

@@ -17,6 +17,7 @@ pub mod InputChannels
 pub mod LentChannels
 pub mod NoiselessCells
 pub mod NoiselessWords
+pub mod PageCodes
 pub mod PrintedRuns
 pub mod PrintedText
 pub mod ReadInputs

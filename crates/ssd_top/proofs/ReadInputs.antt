@@ -7,7 +7,8 @@ use Rattle.image_file.specs.HeadGiven.{ReadsHead}
 use Rattle.image_file.specs.declared.stop.ImageFault.{ImageFault}
 use Rattle.image_file.specs.declared.stop.ReadStop.{ReadStop}
 use Rattle.image_file.specs.declared.stop.ReadStop.TheVariants.{Fault, ReadFault, DieFailed, Memory}
-use Rattle.ssd_formats.specs.ImageHead.{head_of, sizes_of}
+use Rattle.ssd_formats.specs.ImageHead.{head_of}
+use Rattle.ssd_geo.specs.Shape.{sizes_of}
 use Rattle.ssd_formats.specs.Input.{read_input}
 use Rattle.ssd_geo.specs.declared.head.ImageHead.{ImageHead}
 use Rattle.ssd_geo.specs.declared.trace.Trace.{Trace}

@@ -5,7 +5,8 @@ use Rattle.chan_calls.specs.Workers.{WorkerState}
 use Rattle.chan_state.specs.ChannelState.{ChannelState, HasBegun}
 use Rattle.ssd_top.specs.Handed.{history_limit}
 use Rattle.ssd_formats.specs.ImageContents.{IsBaseOf, blank_channel}
-use Rattle.ssd_formats.specs.ImageHead.{Head, matrix_of_head, sizes_of}
+use Rattle.ssd_formats.specs.ImageHead.{Head, matrix_of_head}
+use Rattle.ssd_geo.specs.Shape.{sizes_of}
 use Rattle.ssd_geo.specs.declared.base.ChannelBase.{ChannelBase}
 
 -- a worker has the sizes, the session, the code, the iterations, the read levels and the distance

@@ -4,7 +4,8 @@
 use Rattle.std.specs.Prelude.{ℕ, ◌+◌, ◌-◌, ◌*◌, nat_le, Bool, true, ◌&&◌, List, [], ◌∷◌, length}
 use Rattle.run_laws.specs.WrittenRoom.{good_in, writes_to}
 use Rattle.ssd_formats.specs.ImageContents.{ChannelImage, blank_channel, blocks_of_saved, slots_of_sizes}
-use Rattle.ssd_formats.specs.ImageHead.{Head, Sizes}
+use Rattle.ssd_formats.specs.ImageHead.{Head}
+use Rattle.ssd_geo.specs.Limits.{Sizes}
 use Rattle.ssd_formats.specs.Input.{Input}
 use Rattle.ssd_geo.specs.declared.trace.Trace.{Trace}
 

@@ -12,7 +12,7 @@ use Rattle.run_laws.specs.StoppedRuns.{StopsAt}
 use Rattle.ssd_top.specs.Handed.{handed_in, history_limit, no_faults}
 use Rattle.run_laws.specs.WrittenRoom.{HasBlankBlocks}
 use Rattle.ssd_formats.specs.HistoryText.{is_spelled_entry}
-use Rattle.ssd_formats.specs.ImageHead.{sizes_of}
+use Rattle.ssd_geo.specs.Shape.{sizes_of}
 use Rattle.ssd_formats.specs.Input.{Input}
 use Rattle.ssd_histories.specs.HistoryRoom.{found_room}
 use Rattle.ssd_histories.specs.Start.{Start}

@@ -2,7 +2,7 @@
 ghost use Rattle.std.specs.Prelude.{◌≡◌, ◌<◌, IfOk, replicate};
 ghost use Rattle.ssd_formats.specs.ImageContents.{IsBaseOf, blank_channel, blank_saved, blocks_of_saved, is_factory_bad};
 ghost use Rattle.ssd_formats.specs.ImageHead.{head_of};
-ghost use Rattle.ssd_geo.specs.Limits.{word_bytes_of};
+ghost use Rattle.ssd_geo.specs.Coding.{word_bytes_in};
 ghost use Rattle.ssd_geo.specs.StripeSum.{zero_word};
 ghost use Rattle.ssd_geo.specs.declared.row.Row.TheVariants.{Empty};
 
@@ -85,7 +85,7 @@ fn empty_rows(alloc: Global, rows: u32) -> Result<Items<Row>, Memory>
 }
 
 fn zero_sum(alloc: Global, shape: &Shape) -> Result<Items<u8>, Memory>
-    ensures { IfOk result (λ sum. sum ≡ zero_word (word_bytes_of shape.now.nb shape.now.z)) }
+    ensures { IfOk result (λ sum. sum ≡ zero_word (word_bytes_in shape.now)) }
 {
     match vec![in alloc; 0; shape.word_bytes()] {
         Ok(vec) => Ok(Items::new(vec)),

@@ -1,6 +1,7 @@
 // Which inputs are served, tested before their first call.
 ghost use Rattle.std.specs.Prelude.{◌≡◌};
-ghost use Rattle.ssd_formats.specs.ImageHead.{IsHead, head_of, sizes_of};
+ghost use Rattle.ssd_formats.specs.ImageHead.{IsHead, head_of};
+ghost use Rattle.ssd_geo.specs.Shape.{sizes_of};
 ghost use Rattle.ssd_top.specs.Forms.{are_served, blank_input, is_served, is_served_drive, is_served_verb};
 ghost use Rattle.trace_text.specs.NumberedCalls.{IsNumbered};
 

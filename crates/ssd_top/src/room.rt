@@ -3,7 +3,8 @@ ghost use Rattle.std.specs.Prelude.{◌≡◌, ◌≤◌, count_by, not};
 ghost use Rattle.std.specs.List.{range_with_len};
 ghost use Rattle.run_laws.specs.WrittenRoom.{is_write_to, writes_to};
 ghost use Rattle.ssd_formats.specs.ImageContents.{blank_channel, is_factory_bad};
-ghost use Rattle.ssd_formats.specs.ImageHead.{head_of, sizes_of};
+ghost use Rattle.ssd_formats.specs.ImageHead.{head_of};
+ghost use Rattle.ssd_geo.specs.Shape.{sizes_of};
 ghost use Rattle.ssd_top.specs.Forms.{blank_input};
 ghost use Rattle.ssd_top.specs.RoomForTrace.{fits_blank, fits_drive, saved_pages_that_fit};
 

@@ -1,7 +1,8 @@
 // An input, from its bytes to what is printed of it.
 ghost use Rattle.std.specs.Prelude.{◌≡◌, true, IfErr, IfOk, OnOk};
 ghost use Rattle.ssd_geo.specs.Faults.{NeverFell};
-ghost use Rattle.ssd_formats.specs.ImageHead.{IsHead, head_of, sizes_of};
+ghost use Rattle.ssd_formats.specs.ImageHead.{IsHead, head_of};
+ghost use Rattle.ssd_geo.specs.Shape.{sizes_of};
 ghost use Rattle.ssd_top.specs.Forms.{blank_input, is_served};
 ghost use Rattle.ssd_top.specs.Serving.{HasServed, IsCausedByTold, IsNoDie, IsOfInput, IsServed, IsStop};
 ghost use Rattle.ssd_top.specs.Serving.{status_of_image, status_of_trace};
