@@ -6,11 +6,10 @@ use Rattle.std.specs.Int.{w8, w16, w32, w64, to_le_bytes}
 use Rattle.std.proofs.lemmas.Grind.{common_steps}
 use Rattle.std.proofs.lemmas.List.{append_assoc, append-nil, length-append}
 use Rattle.ssd_histories.specs.Blocks.{has_due_used}
-use Rattle.ssd_geo.specs.Codewords.{failed_checks}
 use Rattle.ssd_formats.specs.Fields.{Rest, Reading, is_below, is_any, level_fields, bytes_of_signed, passing, field_or}
-use Rattle.ssd_geo.specs.Limits.{is_within, is_level}
-use Rattle.ssd_formats.specs.ImageContents.{SavedBlock, ChannelImage, programmed_fields, page_fields, die_fields, is_programmed_count, are_programmed_counts, is_page, are_pages, pages_bytes, state_field, state_of_bytes, number_of_state, may_be, is_stripe_open, is_sum, sum_field, word_bytes_of_sizes, cells_of_sizes, slots_of_sizes, block_fields, block_bytes, is_saved_block, blocks_fields, are_saved_blocks, row_field, page_row, row_bytes, is_saved_row, row_fields, are_saved_rows, may_name, blocks_of_saved, channel_fields, channel_bytes, IsSaved, AreSaved, read_channel, read_channels, blank_channel, read_image, image_bytes}
-use Rattle.ssd_formats.specs.ImageHead.{Head, Sizes, IsHead, matrix_of_head, head_bytes}
+use Rattle.ssd_geo.specs.Limits.{Sizes, is_within, is_level, page_cells_of, word_bytes_of}
+use Rattle.ssd_formats.specs.ImageContents.{SavedBlock, ChannelImage, programmed_fields, page_fields, die_fields, is_programmed_count, are_programmed_counts, is_page, are_pages, pages_bytes, state_field, state_of_bytes, number_of_state, may_be, is_stripe_open, is_sum, sum_field, is_page_word, slots_of_sizes, block_fields, block_bytes, is_saved_block, blocks_fields, are_saved_blocks, row_field, page_row, row_bytes, is_saved_row, row_fields, are_saved_rows, may_name, blocks_of_saved, channel_fields, channel_bytes, IsSaved, AreSaved, read_channel, read_channels, blank_channel, read_image, image_bytes}
+use Rattle.ssd_formats.specs.ImageHead.{Head, IsHead, head_bytes}
 use Rattle.ssd_formats.specs.InputFaults.{range}
 use Rattle.ssd_formats.specs.InputFaults as faults
 use Rattle.ssd_geo.specs.declared.base.BlockBase.{BlockBase}
@@ -110,20 +109,20 @@ sum_again : (head : Head) (block : BlockBase) (word : List ℕ) (place : ℕ) (m
     sum_field head block (record { place = place; bytes = word ++ more }) ≡ Ok (word, record { place = place + length word; bytes = more })
 sum_again head block word place more true o e =
     let start : Rest = record { place = place; bytes = word ++ more } in
-    let is_checked : List ℕ → Bool = λ bytes. failed_checks (matrix_of_head head) bytes == 0 in
-    let tested : Bool = length word == word_bytes_of_sizes head.sizes && is_checked word in
+    let is_checked : List ℕ → Bool = is_page_word head in
+    let tested : Bool = length word == word_bytes_of head.sizes && is_checked word in
     let told : tested ≡ true = ap (λ c. if c then tested else (length word == 0)) (sym o) ∙ e in
-    let both = both_of (length word == word_bytes_of_sizes head.sizes) (is_checked word) told in
-    let read : Reading (List ℕ) = field_or (place, faults.sum) (word_bytes_of_sizes head.sizes) (passing is_checked) start in
+    let both = both_of (length word == word_bytes_of head.sizes) (is_checked word) told in
+    let read : Reading (List ℕ) = field_or (place, faults.sum) (word_bytes_of head.sizes) (passing is_checked) start in
     ap (λ c. if c then read else Ok ([], start)) o
-    ∙ (ap (λ n. field_or (place, faults.sum) n (passing is_checked) start) (sym (equal_is (length word) (word_bytes_of_sizes head.sizes) both.0))
+    ∙ (ap (λ n. field_or (place, faults.sum) n (passing is_checked) start) (sym (equal_is (length word) (word_bytes_of head.sizes) both.0))
     ∙ field_again (place, faults.sum) (passing is_checked) word place word more (passes is_checked word word refl both.1))
 sum_again head block word place more false o e =
     let start : Rest = record { place = place; bytes = word ++ more } in
-    let is_checked : List ℕ → Bool = λ bytes. failed_checks (matrix_of_head head) bytes == 0 in
-    let tested : Bool = length word == word_bytes_of_sizes head.sizes && is_checked word in
+    let is_checked : List ℕ → Bool = is_page_word head in
+    let tested : Bool = length word == word_bytes_of head.sizes && is_checked word in
     let told : (length word == 0) ≡ true = ap (λ c. if c then tested else (length word == 0)) (sym o) ∙ e in
-    let read : Reading (List ℕ) = field_or (place, faults.sum) (word_bytes_of_sizes head.sizes) (passing is_checked) start in
+    let read : Reading (List ℕ) = field_or (place, faults.sum) (word_bytes_of head.sizes) (passing is_checked) start in
     ap (λ c. if c then read else Ok ([], start)) o ∙ none_again word place more told
 
 block_again : (head : Head) (channel : ℕ) (before : List SavedBlock) (saved : SavedBlock) (place : ℕ) (more : List ℕ) → head.sizes.pages ≤ 256 →
@@ -139,7 +138,7 @@ block_again head channel before saved place more small e =
     let t4 : Bool = has_due_used (slots_of_sizes sizes) block.state block.used in
     let t5 : Bool = length saved.pages == sizes.dies in
     let t6 : Bool = are_programmed_counts sizes block.state (length before) block.used [] (map length saved.pages) in
-    let t7 : Bool = list_all (are_pages (cells_of_sizes sizes)) saved.pages in
+    let t7 : Bool = list_all (are_pages (page_cells_of sizes)) saved.pages in
     let t8 : Bool = is_sum head block saved.sum in
     let e8 = both_of (t1 && t2 && t3 && t4 && t5 && t6 && t7) t8 e in
     let e7 = both_of (t1 && t2 && t3 && t4 && t5 && t6) t7 e8.0 in
@@ -170,7 +169,7 @@ block_again head channel before saved place more small e =
     ∙ (goes_on _ _ _ (number_again_32 (place + 1, range) (is_within 0 (2 ^ 31)) block.erases (place + 1) b2 few_erases e2.1)
     ∙ (goes_on _ _ _ (number_again_32 (place + 1 + 4, faults.count) (has_due_used (slots_of_sizes sizes) block.state) block.used (place + 1 + 4) b3 few_used e4.1)
     ∙ (goes_on _ _ _ counts
-    ∙ (goes_on _ _ _ (dies_again (cells_of_sizes sizes) saved.pages [] (p9 + length cn) b5 e7.1)
+    ∙ (goes_on _ _ _ (dies_again (page_cells_of sizes) saved.pages [] (p9 + length cn) b5 e7.1)
     ∙ (goes_on _ _ _ (sum_again head block sm (p9 + length cn + length pg) more (is_stripe_open sizes block) refl e8.1)
     ∙ same_reading saved saved (p9 + length cn + length pg + length sm) (place + length (block_bytes saved)) more refl
     (omega (arith, length-append (cn ++ pg) sm, length-append cn pg))))))))

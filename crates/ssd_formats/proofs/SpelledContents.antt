@@ -9,11 +9,10 @@ use Rattle.std.specs.Option.{option_map_or}
 use Rattle.std.proofs.lemmas.List.{length-map, length-append, append_assoc, append-nil}
 use Rattle.std.proofs.Math.Nat.{div-le_of_le-mul, div-add-mod, mul_comm}
 use Rattle.ssd_histories.specs.Blocks.{has_due_used}
-use Rattle.ssd_geo.specs.Codewords.{failed_checks}
 use Rattle.ssd_formats.specs.Fields.{Rest, Fault, Reading, bytes_field, field_or, found_or, passing, is_below, level_fields, are_bytes}
-use Rattle.ssd_geo.specs.Limits.{is_within}
-use Rattle.ssd_formats.specs.ImageContents.{SavedBlock, ChannelImage, slots_of_sizes, cells_of_sizes, word_bytes_of_sizes, state_field, state_of_bytes, state_of_number, may_be, is_programmed_count, are_programmed_counts, programmed_fields, page_fields, die_fields, is_stripe_open, sum_field, block_fields, blocks_fields, blocks_of_saved, may_name, page_row, row_field, row_fields, channel_fields, is_page, are_pages, is_sum, is_saved_block, are_saved_blocks, is_saved_row, are_saved_rows, IsSaved}
-use Rattle.ssd_formats.specs.ImageHead.{Head, Sizes, matrix_of_head}
+use Rattle.ssd_geo.specs.Limits.{Sizes, is_within, page_cells_of, word_bytes_of}
+use Rattle.ssd_formats.specs.ImageContents.{SavedBlock, ChannelImage, slots_of_sizes, is_page_word, state_field, state_of_bytes, state_of_number, may_be, is_programmed_count, are_programmed_counts, programmed_fields, page_fields, die_fields, is_stripe_open, sum_field, block_fields, blocks_fields, blocks_of_saved, may_name, page_row, row_field, row_fields, channel_fields, is_page, are_pages, is_sum, is_saved_block, are_saved_blocks, is_saved_row, are_saved_rows, IsSaved}
+use Rattle.ssd_formats.specs.ImageHead.{Head}
 use Rattle.ssd_formats.specs.InputFaults.{range}
 use Rattle.ssd_formats.specs.InputFaults as faults
 use Rattle.ssd_histories.specs.States.{is_bad}
@@ -191,8 +190,8 @@ record IsSumRead (head : Head) (block : BlockBase) (x : List ℕ × Rest) : Type
 
 sum_is : (head : Head) (block : BlockBase) (rest : Rest) (x : List ℕ × Rest) (b : Bool) → is_stripe_open head.sizes block ≡ b → are_bytes rest.bytes ≡ true → sum_field head block rest ≡ Ok x → IsSumRead head block x
 sum_is head block rest x true o are e =
-    let n : ℕ = word_bytes_of_sizes head.sizes in
-    let is_checked : List ℕ → Bool = λ bytes. failed_checks (matrix_of_head head) bytes == 0 in
+    let n : ℕ = word_bytes_of head.sizes in
+    let is_checked : List ℕ → Bool = is_page_word head in
     let read : Reading (List ℕ) = field_or (rest.place, faults.sum) n (passing is_checked) rest in
     let whole : read ≡ Ok x = ap (λ c. if c then read else Ok ([], rest)) (sym o) ∙ e in
     let parts = passed (rest.place, faults.sum) n is_checked (λ bytes. bytes) rest x whole in
@@ -200,8 +199,8 @@ sum_is head block rest x true o are e =
     let test : (length x.0 == n && is_checked x.0) ≡ true = rw (equal_if (length x.0) n long, parts.0) refl in
     record { is = ap (λ c. if c then (length x.0 == n && is_checked x.0) else (length x.0 == 0)) o ∙ test; left = still_bytes n rest x.1 are parts.2 }
 sum_is head block rest x false o are e =
-    let n : ℕ = word_bytes_of_sizes head.sizes in
-    let is_checked : List ℕ → Bool = λ bytes. failed_checks (matrix_of_head head) bytes == 0 in
+    let n : ℕ = word_bytes_of head.sizes in
+    let is_checked : List ℕ → Bool = is_page_word head in
     let read : Reading (List ℕ) = field_or (rest.place, faults.sum) n (passing is_checked) rest in
     let none : read_as ([], rest) ≡ Ok x = ap (λ c. if c then read else Ok ([], rest)) (sym o) ∙ e in
     let same : ([], rest) ≡ x = ap (value_else x) none in
@@ -239,8 +238,8 @@ block_is head channel before rest x are e =
     let low : is_below (2 ^ 32) us.0 ≡ true = below_if us.0 (2 ^ 32) (omega (arith, vu, number_32_small (take 4 er.1.bytes) (small_at (take 4 er.1.bytes) (are_taken 4 er.1.bytes be)))) in
     on_part (IsBlockRead head channel before x) (programmed_fields sizes st.0 (length before) us.0 sizes.dies [] us.1) _ x n2 (λ pr read3 n3.
     let counts = counts_are sizes st.0 (length before) us.0 sizes.dies [] us.1 pr (due_used_fits (slots_of_sizes sizes) us.0 st.0 tu) bu refl read3 in
-    on_part (IsBlockRead head channel before x) (die_fields (cells_of_sizes sizes) pr.0 [] pr.1) _ x n3 (λ pg read4 n4.
-    let pages = dies_are (cells_of_sizes sizes) pr.0 [] pr.1 pg counts.left refl read4 in
+    on_part (IsBlockRead head channel before x) (die_fields (page_cells_of sizes) pr.0 [] pr.1) _ x n3 (λ pg read4 n4.
+    let pages = dies_are (page_cells_of sizes) pr.0 [] pr.1 pg counts.left refl read4 in
     let block : BlockBase = record { state = st.0; erases = er.0; used = us.0 } in
     on_part (IsBlockRead head channel before x) (sum_field head block pg.1) _ x n4 (λ sm read5 n5.
     let sum = sum_is head block pg.1 sm (is_stripe_open sizes block) refl pages.left read5 in

@@ -6,9 +6,9 @@ use Rattle.std.specs.Int.{Width, w8, w16, w32, w64, byte_len, from_le_bytes, cas
 use Rattle.std.proofs.lemmas.Grind.{common_steps}
 use Rattle.std.proofs.lemmas.Int.{ints}
 use Rattle.ssd_formats.specs.Fields.{Rest, Fault, Reading, ◌>>=◌, bytes_field, found_or, field_or, passing, number_or, number_field, signed_field, signed_of_bytes, is_any, is_below, level_fields, are_bytes}
-use Rattle.ssd_geo.specs.Limits.{is_within, is_signed_within, is_level}
+use Rattle.ssd_geo.specs.Limits.{Sizes, is_column_count, is_level, is_signed_within, is_within, is_word_count, most_bytes_of, most_rows_of}
 use Rattle.ssd_formats.specs.InputFaults.{magic, range, order, short}
-use Rattle.ssd_formats.specs.ImageHead.{Head, Sizes, Fixed, IsHead, beginning, fixed_fields, is_column_count, is_programmed_level, most_bytes, most_rows, is_short, signed_numbers, unless_fault, matrix_fault, matrix_field, weak_record, weak_records, bad_record, bad_records, is_weak_record, are_weak_records, is_bad_record, are_bad_records, comes_after, is_weak_before, is_bad_before, rows_fit, read_head, from_beginning}
+use Rattle.ssd_formats.specs.ImageHead.{Head, Fixed, IsHead, first_beginning, is_beginning, words_field, first_sizes, with_columns, fixed_fields, is_programmed_level, is_short, signed_numbers, unless_fault, matrix_fault, matrix_field, weak_record, weak_records, bad_record, bad_records, is_weak_record, are_weak_records, is_bad_record, are_bad_records, comes_after, is_weak_before, is_bad_before, rows_fit, read_head, from_beginning}
 use Rattle.ssd_geo.specs.BaseMatrix.{BaseMatrix, first_fault}
 use Rattle.ssd_geo.specs.declared.weak.Weak.{Weak}
 use Rattle.std.proofs.lemmas.List.{length-append, append_assoc, append-nil, length-take-le}
@@ -87,17 +87,18 @@ below_if n bound h = grind (arith, common_steps)
 
 -- the fields of fixed places are in range
 pub record IsFixed (f : Fixed) : Type 0 where
+  words : is_word_count f.sizes.words ≡ true
   channels : is_within 1 8 f.sizes.channels ≡ true
   dies : is_within 3 8 f.sizes.dies ≡ true
   superblocks : is_within 4 256 f.sizes.superblocks ≡ true
   pages : is_within 2 256 f.sizes.pages ≡ true
   lifting : is_within 4 1024 f.sizes.z ≡ true
   base_rows : is_within 3 16 f.sizes.mb ≡ true
-  base_columns : is_column_count f.sizes.channels f.sizes.dies f.sizes.superblocks f.sizes.pages f.sizes.z f.sizes.mb f.sizes.nb ≡ true
+  base_columns : is_column_count f.sizes ≡ true
   level_count : is_within 1 16 f.levels ≡ true
   iterations : is_within 1 64 f.iterations ≡ true
-  bytes : is_within 1 (most_bytes f.sizes.z f.sizes.mb f.sizes.nb) f.sizes.bytes ≡ true
-  rows : is_within 1 (most_rows f.sizes.superblocks f.sizes.dies f.sizes.pages 0) f.sizes.rows ≡ true
+  bytes : is_within 1 (most_bytes_of f.sizes) f.sizes.bytes ≡ true
+  rows : is_within 1 (most_rows_of f.sizes 0) f.sizes.rows ≡ true
   seed : is_below (2 ^ 64) f.law.seed ≡ true
   session : is_below (2 ^ 24) f.session ≡ true
   erased : is_signed_within (negsuc 8191) (pos 8190) f.law.erased ≡ true
@@ -148,13 +149,68 @@ on_any_64 R rest next y are e follows =
     on_field R (rest.place, range) 8 is_any (from_le_bytes w64) rest next y are e
     (λ x t v b n. follows x (below_if x.0 (2 ^ 64) (omega (arith, v, number_64_small (take 8 rest.bytes) (small_at (take 8 rest.bytes) (are_taken 8 rest.bytes are))))) b n)
 
+-- What follows from a whole reading, once it follows from a first part and the reading of what is left.
+pub on_part : {A B : Type 0} (R : Type 0) (read : Reading A) (next : A × Rest → Reading B) (y : B × Rest) → (read >>= next) ≡ Ok y →
+    ((x : A × Rest) → read ≡ Ok x → next x ≡ Ok y → R) → R
+on_part R read next y e follows = let step = went_on read next y e in follows step.0 step.1 step.2
+
+abbrev pub reading_of : {A : Type 0} → A × Rest → Reading A
+reading_of x = Ok x
+
+-- what is known of the number of codewords that was read
+record IsWordsRead (x : ℕ × Rest) : Type 0 where
+  is_count : is_word_count x.0 ≡ true
+  left : are_bytes x.1.bytes ≡ true
+
+words_given : (words : ℕ) (rest : Rest) (x : ℕ × Rest) → Ok (words, rest) ≡ reading_of x → is_word_count words ≡ true → are_bytes rest.bytes ≡ true → IsWordsRead x
+words_given words rest x e told are =
+    let same : (words, rest) ≡ x = ap (value_else x) e in
+    subst (λ (p : ℕ × Rest). IsWordsRead p) same (record { is_count = told; left = are })
+
+-- a number that is the last to be read
+last_number : (fault : Fault) (w : Width) (test : ℕ → Bool) (rest : Rest) (x : ℕ × Rest) → are_bytes rest.bytes ≡ true → number_or fault w test rest ≡ Ok x → (test x.0 ≡ true) × (are_bytes x.1.bytes ≡ true)
+last_number fault w test rest x are e =
+    let parts = passed fault (byte_len w) test (from_le_bytes w) rest x e in (parts.0, still_bytes (byte_len w) rest x.1 are parts.2)
+
+words_after_is : (b : Bool) (rest : Rest) (x : ℕ × Rest) → are_bytes rest.bytes ≡ true → (if b then Ok (1, rest) else number_field w8 is_word_count rest) ≡ reading_of x → IsWordsRead x
+words_after_is true rest x are e = words_given 1 rest x e refl are
+words_after_is false rest x are e =
+    let known = last_number (rest.place, range) w8 is_word_count rest x are e in record { is_count = known.0; left = known.1 }
+
+words_are : (rest : Rest) (x : ℕ × Rest) → are_bytes rest.bytes ≡ true → words_field rest ≡ Ok x → IsWordsRead x
+unfolding words_field
+words_are rest x are e =
+    on_field (IsWordsRead x) (rest.place, magic) 8 is_beginning (λ bytes. bytes) rest _ x are e (λ s t v r n. words_after_is (bytes_eq first_beginning s.0) s.1 x r n)
+
+-- what is known of the sizes that were read first
+record IsFirst (words : ℕ) (x : Sizes × Rest) : Type 0 where
+  words_are : x.0.words ≡ words
+  channels : is_within 1 8 x.0.channels ≡ true
+  dies : is_within 3 8 x.0.dies ≡ true
+  superblocks : is_within 4 256 x.0.superblocks ≡ true
+  pages : is_within 2 256 x.0.pages ≡ true
+  lifting : is_within 4 1024 x.0.z ≡ true
+  base_rows : is_within 3 16 x.0.mb ≡ true
+  left : are_bytes x.1.bytes ≡ true
+
+first_is : (words : ℕ) (rest : Rest) (x : Sizes × Rest) → are_bytes rest.bytes ≡ true → first_sizes words rest ≡ Ok x → IsFirst words x
+unfolding first_sizes
+first_is words rest x are e =
+    on_number (IsFirst words x) (rest.place, range) w8 (is_within 1 8) rest _ x are e (λ s1 t1 r1 n1.
+    on_number (IsFirst words x) (s1.1.place, range) w8 (is_within 3 8) s1.1 _ x r1 n1 (λ s2 t2 r2 n2.
+    on_number (IsFirst words x) (s2.1.place, range) w16 (is_within 4 256) s2.1 _ x r2 n2 (λ s3 t3 r3 n3.
+    on_number (IsFirst words x) (s3.1.place, range) w16 (is_within 2 256) s3.1 _ x r3 n3 (λ s4 t4 r4 n4.
+    on_number (IsFirst words x) (s4.1.place, range) w16 (is_within 4 1024) s4.1 _ x r4 n4 (λ s5 t5 r5 n5.
+    on_number (IsFirst words x) (s5.1.place, range) w8 (is_within 3 16) s5.1 _ x r5 n5 (λ s6 t6 r6 n6.
+    let first : Sizes = record { words = words; channels = s1.0; dies = s2.0; superblocks = s3.0; pages = s4.0; z = s5.0; mb = s6.0; nb = 0; bytes = 0; rows = 0 } in
+    let same : (first, s6.1) ≡ x = ap (value_else x) n6 in
+    let known : IsFirst words (first, s6.1) = record { words_are = refl; channels = t1; dies = t2; superblocks = t3; pages = t4; lifting = t5; base_rows = t6; left = r6 } in
+    subst (λ (p : Sizes × Rest). IsFirst words p) same known))))))
+
 abbrev pub FixedIs : Fixed × Rest → Type 0
 FixedIs x = IsFixed x.0 × (are_bytes x.1.bytes ≡ true)
 
-abbrev read_pair : Fixed × Rest → Reading Fixed
-read_pair x = Ok x
-
-fixed_given : (f : Fixed) (rest : Rest) (x : Fixed × Rest) → Ok (f, rest) ≡ read_pair x → IsFixed f → are_bytes rest.bytes ≡ true → FixedIs x
+fixed_given : (f : Fixed) (rest : Rest) (x : Fixed × Rest) → Ok (f, rest) ≡ reading_of x → IsFixed f → are_bytes rest.bytes ≡ true → FixedIs x
 fixed_given f rest x e told are =
     let same : (f, rest) ≡ x = ap (value_else x) e in
     subst (λ (p : Fixed × Rest). FixedIs p) same (told, are)
@@ -162,38 +218,37 @@ fixed_given f rest x e told are =
 pub fixed_is : (rest : Rest) (x : Fixed × Rest) → are_bytes rest.bytes ≡ true → fixed_fields rest ≡ Ok x → FixedIs x
 unfolding fixed_fields
 fixed_is rest x are e =
-    on_field (FixedIs x) (rest.place, magic) 8 (bytes_eq beginning) (λ bytes. bytes) rest _ x are e (λ s0 t0 v0 r0 n0.
-    on_number (FixedIs x) (s0.1.place, range) w8 (is_within 1 8) s0.1 _ x r0 n0 (λ s1 t1 r1 n1.
-    on_number (FixedIs x) (s1.1.place, range) w8 (is_within 3 8) s1.1 _ x r1 n1 (λ s2 t2 r2 n2.
-    on_number (FixedIs x) (s2.1.place, range) w16 (is_within 4 256) s2.1 _ x r2 n2 (λ s3 t3 r3 n3.
-    on_number (FixedIs x) (s3.1.place, range) w16 (is_within 2 256) s3.1 _ x r3 n3 (λ s4 t4 r4 n4.
-    on_number (FixedIs x) (s4.1.place, range) w16 (is_within 4 1024) s4.1 _ x r4 n4 (λ s5 t5 r5 n5.
-    on_number (FixedIs x) (s5.1.place, range) w8 (is_within 3 16) s5.1 _ x r5 n5 (λ s6 t6 r6 n6.
-    on_number (FixedIs x) (s6.1.place, range) w8 (is_column_count s1.0 s2.0 s3.0 s4.0 s5.0 s6.0) s6.1 _ x r6 n6 (λ s7 t7 r7 n7.
+    on_part (FixedIs x) (words_field rest) _ x e (λ w read0 n0.
+    let words = words_are rest w are read0 in
+    on_part (FixedIs x) (first_sizes w.0 w.1) _ x n0 (λ f read1 n1.
+    let first : IsFirst w.0 f = first_is w.0 w.1 f words.left read1 in
+    on_number (FixedIs x) (f.1.place, range) w8 (λ nb. is_column_count (with_columns f.0 nb)) f.1 _ x first.left n1 (λ s7 t7 r7 n7.
     on_number (FixedIs x) (s7.1.place, range) w8 (is_within 1 16) s7.1 _ x r7 n7 (λ s8 t8 r8 n8.
     on_number (FixedIs x) (s8.1.place, range) w8 (is_within 1 64) s8.1 _ x r8 n8 (λ s9 t9 r9 n9.
-    on_number (FixedIs x) (s9.1.place, range) w32 (is_within 1 (most_bytes s5.0 s6.0 s7.0)) s9.1 _ x r9 n9 (λ s10 t10 r10 n10.
-    on_number (FixedIs x) (s10.1.place, range) w32 (is_within 1 (most_rows s3.0 s2.0 s4.0 0)) s10.1 _ x r10 n10 (λ s11 t11 r11 n11.
+    on_number (FixedIs x) (s9.1.place, range) w32 (is_within 1 (most_bytes_of (with_columns f.0 s7.0))) s9.1 _ x r9 n9 (λ s10 t10 r10 n10.
+    on_number (FixedIs x) (s10.1.place, range) w32 (is_within 1 (most_rows_of f.0 0)) s10.1 _ x r10 n10 (λ s11 t11 r11 n11.
     on_any_64 (FixedIs x) s11.1 _ x r11 n11 (λ s12 t12 r12 n12.
     on_number (FixedIs x) (s12.1.place, range) w32 (is_below (2 ^ 24)) s12.1 _ x r12 n12 (λ s13 t13 r13 n13.
     on_signed (FixedIs x) (is_signed_within (negsuc 8191) (pos 8190)) s13.1 _ x r13 n13 (λ s14 t14 r14 n14.
     on_signed (FixedIs x) (is_programmed_level s14.0) s14.1 _ x r14 n14 (λ s15 t15 r15 n15.
     on_number (FixedIs x) (s15.1.place, range) w16 (is_within 0 4095) s15.1 _ x r15 n15 (λ s16 t16 r16 n16.
     on_number (FixedIs x) (s16.1.place, range) w16 (is_within 1 2047) s16.1 _ x r16 n16 (λ s17 t17 r17 n17.
+    let sizes : Sizes = f.0 in
     fixed_given (record {
-      sizes = record { channels = s1.0; dies = s2.0; superblocks = s3.0; pages = s4.0; z = s5.0; mb = s6.0; nb = s7.0; bytes = s10.0; rows = s11.0 };
+      sizes = record sizes { nb = s7.0; bytes = s10.0; rows = s11.0 };
       levels = s8.0;
       iterations = s9.0;
       law = record { erased = s14.0; programmed = s15.0; spread = s16.0; seed = s12.0 };
       step = s17.0;
       session = s13.0;
     }) s17.1 x n17 (record {
-      channels = t1;
-      dies = t2;
-      superblocks = t3;
-      pages = t4;
-      lifting = t5;
-      base_rows = t6;
+      words = ap is_word_count first.words_are ∙ words.is_count;
+      channels = first.channels;
+      dies = first.dies;
+      superblocks = first.superblocks;
+      pages = first.pages;
+      lifting = first.lifting;
+      base_rows = first.base_rows;
       base_columns = t7;
       level_count = t8;
       iterations = t9;
@@ -205,15 +260,7 @@ fixed_is rest x are e =
       programmed = t15;
       spread = t16;
       step = t17;
-    }) r17))))))))))))))))))
-
--- What follows from a whole reading, once it follows from a first part and the reading of what is left.
-pub on_part : {A B : Type 0} (R : Type 0) (read : Reading A) (next : A × Rest → Reading B) (y : B × Rest) → (read >>= next) ≡ Ok y →
-    ((x : A × Rest) → read ≡ Ok x → next x ≡ Ok y → R) → R
-on_part R read next y e follows = let step = went_on read next y e in follows step.0 step.1 step.2
-
-abbrev pub reading_of : {A : Type 0} → A × Rest → Reading A
-reading_of x = Ok x
+    }) r17)))))))))))))
 
 chosen_ok : {A : Type 0} (b : Bool) (fault : Fault) (y x : A × Rest) → (if b then Ok y else Err fault) ≡ reading_of x → (b ≡ true) × (y ≡ x)
 chosen_ok true fault y x e = (refl, ap (value_else x) e)
@@ -438,6 +485,7 @@ head_has_spelling bytes x are e =
       bad = bd.0;
       full = ct.0 == 1;
     }) ct.1 x n7 (record {
+      words = fixed.words;
       channels = fixed.channels;
       dies = fixed.dies;
       superblocks = fixed.superblocks;

@@ -1,7 +1,7 @@
 -- How is a binary input read field by field, and which fault is the first? A field that isn't whole in the input is
 -- short, at the number of bytes that there are; any other fault is at the first byte of what it names. Numbers stand
 -- low byte first.
-use Rattle.std.specs.Prelude.{ℕ, zero, suc, ◌+◌, nat_lt, nat_le, Bool, true, ◌&&◌, if◌then◌else◌, List, [], ◌∷◌, ◌++◌, length, take, drop, bytes_eq, ℤ, pos, negsuc, int_le, Option, Some, None, Result, Ok, Err}
+use Rattle.std.specs.Prelude.{ℕ, zero, suc, ◌+◌, nat_lt, Bool, true, if◌then◌else◌, List, [], ◌∷◌, ◌++◌, length, take, drop, ℤ, Option, Some, None, Result, Ok, Err}
 use Rattle.std.specs.List.{list_all}
 use Rattle.std.specs.Int.{Width, w16, byte_len, from_le_bytes, to_le_bytes, cast_signed, cast_unsigned}
 use Rattle.ssd_formats.specs.InputFaults.{ImageFault, short, magic, range}
@@ -65,9 +65,9 @@ bytes_of_signed n = to_le_bytes w16 (cast_unsigned w16 n)
 abbrev pub signed_field : (ℤ → Bool) → Rest → Reading ℤ
 signed_field test rest = field_or (rest.place, range) 2 (λ bytes. passing test (signed_of_bytes bytes)) rest
 
--- exactly this text
-abbrev pub text_field : List ℕ → Rest → Reading (List ℕ)
-text_field text rest = field_or (rest.place, magic) (length text) (passing (bytes_eq text)) rest
+-- a text of so many bytes that passes a test
+abbrev pub text_field : ℕ → (List ℕ → Bool) → Rest → Reading (List ℕ)
+text_field n test rest = field_or (rest.place, magic) n (passing test) rest
 
 -- tests of numbers
 abbrev pub is_any : ℕ → Bool

@@ -4,13 +4,15 @@ use Rattle.std.specs.Prelude.{ℕ, ◌+◌, ◌-◌, ◌/◌, ◌%◌, ◌^◌, 
 use Rattle.std.specs.List.{range_with_len}
 use Rattle.ssd_geo.specs.BaseMatrix.{diagonal_entry, zero_block}
 use Rattle.ssd_formats.specs.EntryText.{line_of}
-use Rattle.ssd_formats.specs.ImageHead.{Sizes, Head, head_bytes}
+use Rattle.ssd_formats.specs.ImageHead.{Head, first_head_bytes}
+use Rattle.ssd_geo.specs.Limits.{Sizes}
 use Rattle.ssd_geo.specs.Noise.{noise_word}
 use Rattle.ssd_formats.specs.Numbers.{Text}
 
 -- the sizes of the generated drive
 abbrev pub generated_sizes : Sizes
 generated_sizes = record {
+  words = 1;
   channels = 2;
   dies = 4;
   superblocks = 16;
@@ -107,6 +109,6 @@ generated_line number q = generated_line_of q (noise_word number (drawn_before_r
 abbrev pub generated_trace : ℕ → Text
 generated_trace number = line_of (codes "trace 1 4" ∷ []) ++ flat_map (generated_line number) (range_with_len 0 4096)
 
--- the image and the trace
+-- the image, in the first version, and the trace
 abbrev pub generated_work : ℕ → List ℕ
-generated_work number = head_bytes (generated_head number) ++ generated_trace number
+generated_work number = first_head_bytes (generated_head number) ++ generated_trace number

@@ -2,15 +2,17 @@
 -- aren't? For each superblock there stand its state, its erases, its used slots, for each die the number of programmed
 -- pages and then their levels, and for a frontier with an open stripe the sum of the data words there; then the rows
 -- of the page map. The format is this project's own.
-use Rattle.std.specs.Prelude.{◌≡◌, ⊤, IsTrue, true, ℕ, zero, suc, ◌+◌, ◌-◌, ◌*◌, ◌/◌, ◌%◌, ◌^◌, ◌==◌, nat_lt, Bool, ◌&&◌, ◌||◌, not, if◌then◌else◌, List, [], ◌∷◌, ◌++◌, length, map, flat_map, find, replicate, slice_index_or, ℤ, Option, Some, None, Ok}
+use Rattle.std.specs.Prelude.{◌≡◌, ⊤, IsTrue, true, ℕ, zero, suc, ◌+◌, ◌-◌, ◌%◌, ◌^◌, ◌==◌, nat_lt, Bool, ◌&&◌, ◌||◌, not, if◌then◌else◌, List, [], ◌∷◌, ◌++◌, length, map, flat_map, find, replicate, slice_index_or, ℤ, Option, Some, None, Ok}
 use Rattle.std.specs.List.{enumerate_from, list_any, list_all, range_with_len}
 use Rattle.std.specs.Option.{option_map_or}
 use Rattle.std.specs.Int.{w8, w16, w32, w64, to_le_bytes, from_le_bytes}
 use Rattle.ssd_histories.specs.Blocks.{block_at, has_due_used, is_frontier_block, is_victim_block}
 use Rattle.ssd_geo.specs.Codewords.{failed_checks}
 use Rattle.ssd_formats.specs.Fields.{are_bytes, Rest, Fault, Reading, ◌>>=◌, field_or, number_or, number_field, passing, bytes_of_signed, is_any, is_below, level_fields}
-use Rattle.ssd_geo.specs.Limits.{is_within, is_level}
-use Rattle.ssd_formats.specs.ImageHead.{IsHead, Sizes, Head, sizes_of, head_bytes, matrix_of_head, read_head}
+use Rattle.ssd_geo.specs.Limits.{Sizes, is_within, is_level, page_cells_of, word_bytes_of}
+use Rattle.ssd_geo.specs.PageWord.{codes_in}
+use Rattle.ssd_geo.specs.Shape.{sizes_of}
+use Rattle.ssd_formats.specs.ImageHead.{IsHead, Head, head_bytes, matrix_of_head, read_head}
 use Rattle.ssd_formats.specs.InputFaults as faults
 use Rattle.ssd_histories.specs.PageMap.{names_slot}
 use Rattle.ssd_histories.specs.Start.{BlockCells, blank_cells}
@@ -37,15 +39,9 @@ pub record ChannelImage : Type 0 where
   pub blocks : List SavedBlock
   pub rows : List Row
 
--- the number of data slots of a superblock, of cells of a page, and of bytes of a word
+-- the number of data slots of a superblock
 abbrev pub slots_of_sizes : Sizes → ℕ
 slots_of_sizes sizes = slots_of sizes.pages sizes.dies
-
-abbrev pub cells_of_sizes : Sizes → ℕ
-cells_of_sizes sizes = sizes.nb * sizes.z
-
-abbrev pub word_bytes_of_sizes : Sizes → ℕ
-word_bytes_of_sizes sizes = cells_of_sizes sizes / 8
 
 -- the state that a number stands for, and back
 abbrev pub state_of_number : ℕ → Option SbState
@@ -122,11 +118,15 @@ die_fields cells (programmed ∷ others) before rest = do
 abbrev pub is_stripe_open : Sizes → BlockBase → Bool
 is_stripe_open sizes block = is_frontier block.state && not (block.used % (sizes.dies - 1) == 0)
 
--- the sum of the data words of the open stripe, where there is one: a codeword
+-- whether bytes are a page's word: each of its codewords fails no check
+abbrev pub is_page_word : Head → List ℕ → Bool
+is_page_word head bytes = list_all (λ code. failed_checks (matrix_of_head head) code == 0) (codes_in head.sizes bytes)
+
+-- the sum of the data words of the open stripe, where there is one: a page's word
 abbrev pub sum_field : Head → BlockBase → Rest → Reading (List ℕ)
 sum_field head block rest =
     if is_stripe_open head.sizes block
-    then field_or (rest.place, faults.sum) (word_bytes_of_sizes head.sizes) (passing (λ word. failed_checks (matrix_of_head head) word == 0)) rest
+    then field_or (rest.place, faults.sum) (word_bytes_of head.sizes) (passing (is_page_word head)) rest
     else Ok ([], rest)
 
 -- the superblock after those before
@@ -136,7 +136,7 @@ block_fields head channel before rest = do
   erases ← number_field w32 (is_within 0 (2 ^ 31)) state.1
   used ← number_or (erases.1.place, faults.count) w32 (has_due_used (slots_of_sizes head.sizes) state.0) erases.1
   programmed ← programmed_fields head.sizes state.0 (length before) used.0 head.sizes.dies [] used.1
-  pages ← die_fields (cells_of_sizes head.sizes) programmed.0 [] programmed.1
+  pages ← die_fields (page_cells_of head.sizes) programmed.0 [] programmed.1
   sum ← sum_field head (record { state = state.0; erases = erases.0; used = used.0 }) pages.1
   Ok (
     record {
@@ -224,7 +224,7 @@ read_image bytes = do
 abbrev pub sum_of_saved : Sizes → ChannelImage → List ℕ
 sum_of_saved sizes saved =
     option_map_or (λ block. block.sum) (find (λ block. is_stripe_open sizes block.block) saved.blocks)
-    (zero_word (word_bytes_of_sizes sizes))
+    (zero_word (word_bytes_of sizes))
 
 -- the cells of a die's block
 abbrev pub cells_of_block : ℕ → SavedBlock → BlockCells
@@ -315,7 +315,7 @@ are_pages cells pages = list_all (is_page cells) pages
 abbrev pub is_sum : Head → BlockBase → List ℕ → Bool
 is_sum head block word =
     if is_stripe_open head.sizes block
-    then length word == word_bytes_of_sizes head.sizes && failed_checks (matrix_of_head head) word == 0
+    then length word == word_bytes_of head.sizes && is_page_word head word
     else length word == 0
 
 -- whether a superblock may stand in an image, after those before
@@ -327,7 +327,7 @@ is_saved_block head channel before saved =
     && has_due_used (slots_of_sizes head.sizes) saved.block.state saved.block.used
     && length saved.pages == head.sizes.dies
     && are_programmed_counts head.sizes saved.block.state (length before) saved.block.used [] (map length saved.pages)
-    && list_all (are_pages (cells_of_sizes head.sizes)) saved.pages
+    && list_all (are_pages (page_cells_of head.sizes)) saved.pages
     && is_sum head saved.block saved.sum
 
 abbrev pub are_saved_blocks : Head → ℕ → List SavedBlock → List SavedBlock → Bool

@@ -3,7 +3,7 @@ use Rattle.std.specs.Prelude.{Result, replicate, true, map, ℕ, ◌+◌, length
 use Rattle.ssd_formats.specs.Fields.{Fault, Reading}
 use Rattle.ssd_geo.specs.Bits.{bits_of}
 use Rattle.ssd_geo.specs.Cells.{aim_of_bit}
-use Rattle.ssd_geo.specs.Codewords.{word_of}
+use Rattle.ssd_geo.specs.PageWord.{word_of}
 use Rattle.ssd_formats.specs.ImageContents.{image_bytes, ChannelImage, blank_saved}
 use Rattle.ssd_geo.specs.declared.weak.Weak.{Weak}
 use Rattle.ssd_geo.specs.declared.row.Row.TheVariants.{Empty, Page}
@@ -29,6 +29,7 @@ small_image =
 abbrev pub small_head : Head
 small_head = record {
   sizes = record {
+    words = 1;
     channels = 1;
     dies = 3;
     superblocks = 4;
@@ -53,28 +54,42 @@ small_head = record {
   full = false;
 }
 
+-- the same image in the second version
+abbrev pub second_small_image : List ℕ
+second_small_image =
+    83 ∷ 83 ∷ 68 ∷ 73 ∷ 77 ∷ 71 ∷ 48 ∷ 50 ∷ 1 ∷ drop 8 small_image
+
+-- a list of bytes with some in place of those from a place on
+abbrev pub with_bytes : List ℕ → ℕ → List ℕ → List ℕ
+with_bytes image place bytes = take place image ++ bytes ++ drop (place + length bytes) image
+
+-- the image of a drive whose pages have two codewords, each of half the bits: that with two codewords and half the
+-- lifting size
+abbrev pub two_words_image : List ℕ
+two_words_image = with_bytes (with_bytes second_small_image 8 (2 ∷ [])) 15 (32 ∷ 0 ∷ [])
+
+-- the head that it has
+abbrev pub two_words_head : Head
+two_words_head = record small_head { sizes = record small_head.sizes { words = 2; z = 32 } }
+
 -- the fault of an input that has no head
 abbrev pub fault_or : {A : Type 0} → Fault → Reading A → Fault
 fault_or other (Ok read) = other
 fault_or other (Err fault) = fault
 
--- the fault of the first n bytes of the image
-abbrev pub fault_of_first : ℕ → Fault
-fault_of_first n = fault_or (93, short) (read_head (take n small_image))
+-- the fault of the first n bytes of an image
+abbrev pub fault_of_first : List ℕ → ℕ → Fault
+fault_of_first image n = fault_or (length image, short) (read_head (take n image))
 
--- the blank image as it is saved: the next session, contents, and then nothing but zeros: for each superblock its state,
--- erases, used slots and programmed pages, and for each row its kind
+-- the blank image as it is saved: in the second version, with the next session, contents, and then nothing but zeros: for
+-- each superblock its state, erases, used slots and programmed pages, and for each row its kind
 abbrev pub saved_small_image : List ℕ
 saved_small_image =
-    take 36 small_image ++ 1 ∷ take 55 (drop 37 small_image) ++ 1 ∷ replicate 68 0
+    take 37 second_small_image ++ 1 ∷ take 55 (drop 38 second_small_image) ++ 1 ∷ replicate 68 0
 
 -- its head, and what it tells of its channel
 abbrev pub saved_small_head : Head
 saved_small_head = with_next_session small_head true
-
--- a list of bytes with some in place of those from a place on
-abbrev pub with_bytes : List ℕ → ℕ → List ℕ → List ℕ
-with_bytes image place bytes = take place image ++ bytes ++ drop (place + length bytes) image
 
 -- the blank image with other bytes after its base matrix, and room for fewer rows a channel
 abbrev pub small_image_with : List ℕ → List ℕ
@@ -102,20 +117,27 @@ abbrev pub one_page_payload : List ℕ
 one_page_payload =
     0 ∷ 0 ∷ 0 ∷ 0 ∷ 0 ∷ 0 ∷ 0 ∷ 0 ∷ 5 ∷ 0 ∷ 0 ∷ 0 ∷ 80 ∷ 71 ∷ 69 ∷ 49 ∷ 1 ∷ 2 ∷ 0 ∷ 0 ∷ 0 ∷ 0 ∷ 0 ∷ 0 ∷ []
 
--- a channel with that page: it stands on die 1, and the open stripe's sum is its word
-abbrev pub one_page_saved : ChannelImage
-one_page_saved =
-    let word = word_of (matrix_of_head small_head) one_page_payload in
+-- a channel with that page, in the drive of a head: it stands on die 1, and the open stripe's sum is its word
+abbrev pub one_page_saved : Head → ChannelImage
+one_page_saved head =
+    let word = word_of head.sizes (matrix_of_head head) one_page_payload in
     record {
       blocks =
           record {
             block = record { state = Frontier; erases = 0; used = 1 };
-            pages = [] ∷ (map (aim_of_bit small_head.law) (bits_of 384 word) ∷ []) ∷ [] ∷ [];
+            pages = [] ∷ (map (aim_of_bit head.law) (bits_of 384 word) ∷ []) ∷ [] ∷ [];
             sum = word;
-          } ∷ map (blank_saved small_head 0) (1 ∷ 2 ∷ 3 ∷ []);
+          } ∷ map (blank_saved head 0) (1 ∷ 2 ∷ 3 ∷ []);
       rows = replicate 5 Empty ++ Page (record { sb = 0; index = 0 }) 0 ∷ replicate 2 Empty;
     }
 
 -- the image with it
 abbrev pub page_image : List ℕ
-page_image = image_bytes saved_small_head (one_page_saved ∷ [])
+page_image = image_bytes saved_small_head (one_page_saved small_head ∷ [])
+
+-- and that of the drive whose pages have two codewords
+abbrev pub saved_two_words_head : Head
+saved_two_words_head = with_next_session two_words_head true
+
+abbrev pub two_words_page_image : List ℕ
+two_words_page_image = image_bytes saved_two_words_head (one_page_saved two_words_head ∷ [])

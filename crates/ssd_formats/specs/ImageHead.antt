@@ -1,29 +1,19 @@
 -- Which bytes are the head of an image, and what is the first fault of those that aren't? The fields are tested in the
--- order of the file, each as soon as it is read. The format is this project's own.
-use Rattle.std.specs.Prelude.{◌≡◌, IsTrue, ℕ, zero, suc, ◌+◌, ◌-◌, ◌*◌, ◌/◌, ◌%◌, ◌^◌, ◌==◌, nat_lt, nat_le, Bool, true, ◌&&◌, ◌||◌, not, if◌then◌else◌, List, [], ◌∷◌, ◌++◌, length, flat_map, count_by, option_map, slice_get, codes, ℤ, pos, negsuc, int_lt, int_le, Option, Some, None, Ok, Err}
+-- order of the file, each as soon as it is read. There are two versions, told apart by the text at the beginning: in the
+-- second the number of codewords of a page stands after that text; in the first it isn't there, and a page has one. What
+-- follows is the same in both. The format is this project's own.
+use Rattle.std.specs.Prelude.{◌≡◌, IsTrue, ℕ, zero, suc, ◌+◌, ◌-◌, ◌*◌, ◌%◌, ◌^◌, ◌==◌, nat_lt, nat_le, Bool, true, ◌&&◌, ◌||◌, not, if◌then◌else◌, List, [], ◌∷◌, ◌++◌, bytes_eq, length, flat_map, count_by, option_map, slice_get, codes, ℤ, pos, negsuc, int_lt, int_le, Option, Some, None, Ok, Err}
 use Rattle.std.specs.Int.{w8, w16, w32, w64, to_le_bytes}
 use Rattle.std.specs.List.{list_all}
 use Rattle.std.specs.Option.{option_map_or}
 use Rattle.ssd_geo.specs.BaseMatrix.{BaseMatrix, MatrixFault, entry_range, parity_column, diagonal as diagonal_of, first_fault}
 use Rattle.ssd_formats.specs.Fields.{are_bytes, Rest, Fault, Reading, ◌>>=◌, bytes_field, number_field, signed_field, text_field, signed_of_bytes, bytes_of_signed, is_any, is_below, level_fields}
-use Rattle.ssd_geo.specs.Limits.{is_within, is_level, is_signed_within, cells_of}
+use Rattle.ssd_geo.specs.Limits.{IsWithinLimits, Sizes, is_within, is_level, is_signed_within, is_column_count, is_word_count, most_bytes_of, most_rows_of}
+use Rattle.ssd_geo.specs.Shape.{sizes_of}
 use Rattle.ssd_formats.specs.InputFaults.{range, entry, parity, diagonal, order}
 use Rattle.ssd_geo.specs.declared.cell_law.CellLaw.{CellLaw}
 use Rattle.ssd_geo.specs.declared.head.ImageHead.{ImageHead}
-use Rattle.ssd_geo.specs.declared.shape.Shape.{Shape}
 use Rattle.ssd_geo.specs.declared.weak.Weak.{Weak}
-
--- the sizes of a drive, of its code and of its pages
-pub record Sizes : Type 0 where
-  pub channels : ℕ
-  pub dies : ℕ
-  pub superblocks : ℕ
-  pub pages : ℕ
-  pub z : ℕ
-  pub mb : ℕ
-  pub nb : ℕ
-  pub bytes : ℕ
-  pub rows : ℕ
 
 -- what an image tells before its contents, as plain numbers and lists
 pub record Head : Type 0 where
@@ -37,20 +27,6 @@ pub record Head : Type 0 where
   pub weak : List Weak
   pub bad : List (ℕ × ℕ)
   pub full : Bool
-
--- the sizes that a shape holds
-abbrev pub sizes_of : Shape → Sizes
-sizes_of shape = record {
-  channels = shape.channels;
-  dies = shape.dies;
-  superblocks = shape.superblocks;
-  pages = shape.pages;
-  z = shape.z;
-  mb = shape.mb;
-  nb = shape.nb;
-  bytes = shape.bytes;
-  rows = shape.rows;
-}
 
 -- what an image's head tells, without the place that was reached
 abbrev pub head_of : ImageHead → Head
@@ -80,43 +56,70 @@ pub record Fixed : Type 0 where
   pub step : ℕ
   pub session : ℕ
 
--- whether a base matrix may have so many columns, next to the sizes before: payload and word are whole bytes, and the
--- cells aren't too many
-abbrev pub is_column_count : ℕ → ℕ → ℕ → ℕ → ℕ → ℕ → ℕ → Bool
-is_column_count channels dies superblocks pages z mb nb =
-    is_within (mb + 1) 128 nb && (nb - mb) * z % 8 == 0 && nb * z % 8 == 0
-    && nat_le (cells_of channels dies superblocks pages z nb) (2 ^ 28)
-
--- the most data bytes of a page: its payload but for the page head
-abbrev pub most_bytes : ℕ → ℕ → ℕ → ℕ
-most_bytes z mb nb = (nb - mb) * z / 8 - 16
-
--- the most rows of a channel with so many factory bad superblocks: two superblocks stay free of them
-abbrev pub most_rows : ℕ → ℕ → ℕ → ℕ → ℕ
-most_rows superblocks dies pages bad = (superblocks - 2 - bad) * (dies - 1) * pages
-
 -- whether a level may be that of a programmed cell, where erased ones have this one
 abbrev pub is_programmed_level : ℤ → ℤ → Bool
 is_programmed_level erased programmed = int_lt erased programmed && int_le programmed (pos 8191)
 
--- the text at the beginning
-abbrev pub beginning : List ℕ
-beginning = codes "SSDIMG01"
+-- the text at the beginning, in the first version and in the second
+abbrev pub first_beginning : List ℕ
+first_beginning = codes "SSDIMG01"
 
-unfoldable pub fixed_fields : Rest → Reading Fixed
-fixed_fields rest = do
-  text ← text_field beginning rest
-  channels ← number_field w8 (is_within 1 8) text.1
+abbrev pub beginning : List ℕ
+beginning = codes "SSDIMG02"
+
+-- whether a text is one of them
+abbrev pub is_beginning : List ℕ → Bool
+is_beginning text = bytes_eq first_beginning text || bytes_eq beginning text
+
+-- the number of codewords of a page, after this text: a field of the second version
+abbrev pub words_after : List ℕ → Rest → Reading ℕ
+words_after text rest = if bytes_eq first_beginning text then Ok (1, rest) else number_field w8 is_word_count rest
+
+-- the text at the beginning and the number of codewords of a page
+unfoldable pub words_field : Rest → Reading ℕ
+words_field rest = do
+  text ← text_field 8 is_beginning rest
+  words_after text.0 text.1
+
+-- the sizes up to the rows of the base matrix, where a page has so many codewords; the later ones are 0
+unfoldable pub first_sizes : ℕ → Rest → Reading Sizes
+first_sizes words rest = do
+  channels ← number_field w8 (is_within 1 8) rest
   dies ← number_field w8 (is_within 3 8) channels.1
   superblocks ← number_field w16 (is_within 4 256) dies.1
   pages ← number_field w16 (is_within 2 256) superblocks.1
   z ← number_field w16 (is_within 4 1024) pages.1
   mb ← number_field w8 (is_within 3 16) z.1
-  nb ← number_field w8 (is_column_count channels.0 dies.0 superblocks.0 pages.0 z.0 mb.0) mb.1
+  Ok (
+    record {
+      words = words;
+      channels = channels.0;
+      dies = dies.0;
+      superblocks = superblocks.0;
+      pages = pages.0;
+      z = z.0;
+      mb = mb.0;
+      nb = 0;
+      bytes = 0;
+      rows = 0;
+    },
+    mb.1,
+  )
+
+-- the first sizes with this number of columns of the base matrix
+abbrev pub with_columns : Sizes → ℕ → Sizes
+with_columns first nb = record first { nb = nb }
+
+-- the fields of fixed places
+unfoldable pub fixed_fields : Rest → Reading Fixed
+fixed_fields rest = do
+  words ← words_field rest
+  first ← first_sizes words.0 words.1
+  nb ← number_field w8 (λ nb. is_column_count (with_columns first.0 nb)) first.1
   levels ← number_field w8 (is_within 1 16) nb.1
   iterations ← number_field w8 (is_within 1 64) levels.1
-  bytes ← number_field w32 (is_within 1 (most_bytes z.0 mb.0 nb.0)) iterations.1
-  rows ← number_field w32 (is_within 1 (most_rows superblocks.0 dies.0 pages.0 0)) bytes.1
+  bytes ← number_field w32 (is_within 1 (most_bytes_of (with_columns first.0 nb.0))) iterations.1
+  rows ← number_field w32 (is_within 1 (most_rows_of first.0 0)) bytes.1
   seed ← number_field w64 is_any rows.1
   session ← number_field w32 (is_below (2 ^ 24)) seed.1
   erased ← signed_field (is_signed_within (negsuc 8191) (pos 8190)) session.1
@@ -125,17 +128,7 @@ fixed_fields rest = do
   step ← number_field w16 (is_within 1 2047) spread.1
   Ok (
     record {
-      sizes = record {
-        channels = channels.0;
-        dies = dies.0;
-        superblocks = superblocks.0;
-        pages = pages.0;
-        z = z.0;
-        mb = mb.0;
-        nb = nb.0;
-        bytes = bytes.0;
-        rows = rows.0;
-      };
+      sizes = record first.0 { nb = nb.0; bytes = bytes.0; rows = rows.0 };
       levels = levels.0;
       iterations = iterations.0;
       law = record { erased = erased.0; programmed = programmed.0; spread = spread.0; seed = seed.0 };
@@ -205,7 +198,7 @@ bad_of_channel bad channel = count_by (λ of. of.0 == channel) bad
 -- whether the rows of a channel still fit, with one more of its superblocks bad
 abbrev pub rows_fit : Sizes → List (ℕ × ℕ) → ℕ → Bool
 rows_fit sizes before channel =
-    nat_le sizes.rows (most_rows sizes.superblocks sizes.dies sizes.pages (bad_of_channel before channel + 1))
+    nat_le sizes.rows (most_rows_of sizes (bad_of_channel before channel + 1))
 
 -- a factory bad superblock, after those before: it stands after them, and then its channel's rows still fit
 unfoldable pub bad_record : Sizes → List (ℕ × ℕ) → Rest → Reading (ℕ × ℕ)
@@ -261,10 +254,9 @@ weak_bytes weak =
 abbrev pub bad_bytes : ℕ × ℕ → List ℕ
 bad_bytes bad = to_le_bytes w8 bad.0 ++ to_le_bytes w8 0 ++ to_le_bytes w16 bad.1
 
--- the bytes of a head
-unfoldable pub head_bytes : Head → List ℕ
-head_bytes head =
-    beginning ++
+-- the bytes of a head after the number of codewords of a page, which are the same in both versions
+abbrev pub later_bytes : Head → List ℕ
+later_bytes head =
     to_le_bytes w8 head.sizes.channels ++
     to_le_bytes w8 head.sizes.dies ++
     to_le_bytes w16 head.sizes.superblocks ++
@@ -289,6 +281,14 @@ head_bytes head =
     to_le_bytes w16 (length head.bad) ++
     flat_map bad_bytes head.bad ++
     to_le_bytes w8 (if head.full then 1 else 0)
+
+-- the bytes of a head, in the second version
+unfoldable pub head_bytes : Head → List ℕ
+head_bytes head = beginning ++ to_le_bytes w8 head.sizes.words ++ later_bytes head
+
+-- the bytes of a head in the first version, in which a page has one codeword
+unfoldable pub first_head_bytes : Head → List ℕ
+first_head_bytes head = first_beginning ++ later_bytes head
 
 -- a head as a drive is saved or formatted with it: the session is the next one
 abbrev pub with_next_session : Head → Bool → Head
@@ -322,17 +322,18 @@ is_short n = is_signed_within (negsuc 32767) (pos 32767) n
 
 -- a head that has a spelling: each field is in its range
 pub record IsHead (head : Head) : Type 0 where
+  pub words : IsTrue (is_word_count head.sizes.words)
   pub channels : IsTrue (is_within 1 8 head.sizes.channels)
   pub dies : IsTrue (is_within 3 8 head.sizes.dies)
   pub superblocks : IsTrue (is_within 4 256 head.sizes.superblocks)
   pub pages : IsTrue (is_within 2 256 head.sizes.pages)
   pub lifting : IsTrue (is_within 4 1024 head.sizes.z)
   pub base_rows : IsTrue (is_within 3 16 head.sizes.mb)
-  pub base_columns : IsTrue (is_column_count head.sizes.channels head.sizes.dies head.sizes.superblocks head.sizes.pages head.sizes.z head.sizes.mb head.sizes.nb)
+  pub base_columns : IsTrue (is_column_count head.sizes)
   pub level_count : IsTrue (is_within 1 16 (length head.read_levels))
   pub iterations : IsTrue (is_within 1 64 head.iterations)
-  pub bytes : IsTrue (is_within 1 (most_bytes head.sizes.z head.sizes.mb head.sizes.nb) head.sizes.bytes)
-  pub rows : IsTrue (is_within 1 (most_rows head.sizes.superblocks head.sizes.dies head.sizes.pages 0) head.sizes.rows)
+  pub bytes : IsTrue (is_within 1 (most_bytes_of head.sizes) head.sizes.bytes)
+  pub rows : IsTrue (is_within 1 (most_rows_of head.sizes 0) head.sizes.rows)
   pub seed : IsTrue (is_below (2 ^ 64) head.law.seed)
   pub session : IsTrue (is_below (2 ^ 24) head.session)
   pub erased : IsTrue (is_signed_within (negsuc 8191) (pos 8190) head.law.erased)
@@ -355,7 +356,17 @@ HeadIsRead =
     (head : Head) (more : List ℕ) → IsHead head →
     read_head (head_bytes head ++ more) ≡ Ok (head, record { place = length (head_bytes head); bytes = more })
 
+-- and so is one in the first version, with one codeword a page
+abbrev pub FirstHeadIsRead : Type 0
+FirstHeadIsRead =
+    (head : Head) (more : List ℕ) → IsHead head → head.sizes.words ≡ 1 →
+    read_head (first_head_bytes head ++ more) ≡ Ok (head, record { place = length (first_head_bytes head); bytes = more })
+
 -- a head that was read from bytes has a spelling
 abbrev pub HeadHasSpelling : Type 0
 HeadHasSpelling =
     (bytes : List ℕ) (head : Head) (rest : Rest) → IsTrue (are_bytes bytes) → read_head bytes ≡ Ok (head, rest) → IsHead head
+
+-- the sizes of a head that has a spelling are within the limits
+abbrev pub HeadIsWithinLimits : Type 0
+HeadIsWithinLimits = (head : Head) → IsHead head → IsWithinLimits head.sizes

@@ -2,7 +2,7 @@
 -- `small_image`: one channel of eight pages, eight data bytes a page.
 use Rattle.std.specs.Prelude.{ℕ, List, [], ◌∷◌, ◌++◌, codes, Result, Ok, Err}
 use Rattle.ssd_formats.specs.ImageExamples.{small_head}
-use Rattle.ssd_formats.specs.ImageHead.{Sizes}
+use Rattle.ssd_geo.specs.Limits.{Sizes}
 use Rattle.ssd_formats.specs.InputFaults.{TraceFault}
 use Rattle.ssd_formats.specs.Lines.{Line}
 use Rattle.ssd_formats.specs.Numbers.{Text}

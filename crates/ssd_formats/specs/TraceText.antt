@@ -6,7 +6,7 @@ use Rattle.std.specs.List.{range_with_len}
 use Rattle.std.specs.Int.{w64, to_le_bytes}
 use Rattle.ssd_formats.specs.Fields.{◌>>=◌, passing}
 use Rattle.ssd_geo.specs.Limits.{is_within}
-use Rattle.ssd_formats.specs.ImageHead.{Sizes}
+use Rattle.ssd_geo.specs.Limits.{Sizes}
 use Rattle.ssd_formats.specs.InputFaults.{TraceFault}
 use Rattle.ssd_formats.specs.InputFaults as faults
 use Rattle.ssd_formats.specs.Lines.{Line, lines_in, words_in, is_line_of_words, is_skipped}

@@ -2,23 +2,37 @@
 ghost use Rattle.std.specs.Prelude.{codes, ◌≡◌, length, ◌∷◌, ◌++◌, [], map, Ok, Err, take, ◌-◌};
 ghost use Rattle.std.specs.List.{range_with_len};
 ghost use Rattle.ssd_formats.specs.ImageContents.{blank_channel, image_bytes, read_image};
-ghost use Rattle.ssd_formats.specs.ImageExamples.{read_lists, small_image, small_head, fault_of_first, saved_small_head, saved_small_image, one_page_saved, page_image, small_image_with, with_bytes, weak_at, bad_at};
-ghost use Rattle.ssd_formats.specs.ImageHead.{head_bytes, read_head};
+ghost use Rattle.ssd_formats.specs.ImageExamples.{read_lists, small_image, second_small_image, small_head, fault_of_first, saved_small_head, saved_small_image, one_page_saved, page_image, small_image_with, with_bytes, weak_at, bad_at, two_words_head, two_words_image, saved_two_words_head, two_words_page_image};
+ghost use Rattle.ssd_formats.specs.ImageHead.{first_head_bytes, head_bytes, read_head};
 ghost use Rattle.ssd_formats.specs.Input.{read_input};
 ghost use Rattle.ssd_formats.specs.Statuses.{image, trace};
 ghost use Rattle.ssd_formats.specs.TextExamples.{lines_text};
 ghost use Rattle.ssd_formats.specs.TraceExamples.{one_page_calls};
 ghost use Rattle.ssd_formats.specs.InputFaults.{first, out_of_range, short, magic, range, entry, parity, diagonal, order, state, count, sum, row};
 
-/// A blank image: its head is read whatever follows, and is written as it stood.
+/// A blank image: its head is read whatever follows, in both versions, and is written as it stood.
 pub fn example_image()
     ensures read { read_head (small_image ++ 7 ∷ []) ≡ Ok (small_head, record { place = 93; bytes = 7 ∷ [] }) }
-    ensures written { head_bytes small_head ≡ small_image }
+    ensures written { first_head_bytes small_head ≡ small_image }
+    ensures second_read { read_head (second_small_image ++ 7 ∷ []) ≡ Ok (small_head, record { place = 94; bytes = 7 ∷ [] }) }
+    ensures second_written { head_bytes small_head ≡ second_small_image }
+{}
+
+/// A blank image of a drive whose pages have two codewords, which only the second version can tell.
+pub fn example_two_words_image()
+    ensures read { read_head (two_words_image ++ 7 ∷ []) ≡ Ok (two_words_head, record { place = 94; bytes = 7 ∷ [] }) }
+    ensures written { head_bytes two_words_head ≡ two_words_image }
+    ensures no_words { read_head (with_bytes second_small_image 8 (0 ∷ [])) ≡ Err (8, range) }
+    ensures three_words { read_head (with_bytes second_small_image 8 (3 ∷ [])) ≡ Err (8, range) }
+    ensures five_words { read_head (with_bytes second_small_image 8 (5 ∷ [])) ≡ Err (8, range) }
+    ensures short_words { read_head (take 8 second_small_image) ≡ Err (8, short) }
+    ensures data_bytes { read_head (with_bytes two_words_image 21 (9 ∷ [])) ≡ Err (21, range) }
 {}
 
 /// The first fault of an image with some bytes changed.
 pub fn example_image_faults()
     ensures magic { read_head (with_bytes small_image 0 (84 ∷ [])) ≡ Err (0, magic) }
+    ensures third_version { read_head (with_bytes small_image 7 (51 ∷ [])) ≡ Err (0, magic) }
     ensures channels { read_head (with_bytes small_image 8 (0 ∷ [])) ≡ Err (8, range) }
     ensures base_rows { read_head (with_bytes small_image 16 (2 ∷ [])) ≡ Err (16, range) }
     ensures base_columns { read_head (with_bytes small_image 17 (3 ∷ [])) ≡ Err (17, range) }
@@ -27,25 +41,33 @@ pub fn example_image_faults()
     ensures parity { read_head (with_bytes small_image 58 (255 ∷ 255 ∷ [])) ≡ Err (58, parity) }
     ensures diagonal { read_head (with_bytes small_image 60 (1 ∷ 0 ∷ [])) ≡ Err (60, diagonal) }
     ensures contents { read_head (with_bytes small_image 92 (2 ∷ [])) ≡ Err (92, range) }
+    ensures second_channels { read_head (with_bytes second_small_image 9 (0 ∷ [])) ≡ Err (9, range) }
+    ensures second_entry { read_head (with_bytes second_small_image 53 (64 ∷ 0 ∷ [])) ≡ Err (53, entry) }
+    ensures second_contents { read_head (with_bytes second_small_image 93 (2 ∷ [])) ≡ Err (93, range) }
 {}
 
 /// Each front of an image that isn't whole is short, at its length.
 pub fn example_short_images()
-    ensures { map fault_of_first (range_with_len 0 93) ≡ map (λ n. (n, short)) (range_with_len 0 93) }
+    ensures first { map (fault_of_first small_image) (range_with_len 0 93) ≡ map (λ n. (n, short)) (range_with_len 0 93) }
+    ensures second { map (fault_of_first second_small_image) (range_with_len 0 94) ≡ map (λ n. (n, short)) (range_with_len 0 94) }
 {}
 
-/// A blank image, and what it is saved as: the same drive, in the next session.
+/// A blank image, and what it is saved as: the same drive, in the next session and in the second version.
 pub fn example_saved_image()
     ensures blank { read_image small_image ≡ Ok ((small_head, blank_channel small_head 0 ∷ []), record { place = 93; bytes = [] }) }
     ensures saved { image_bytes saved_small_head (blank_channel small_head 0 ∷ []) ≡ saved_small_image }
-    ensures length { length saved_small_image ≡ 161 }
-    ensures read { read_image saved_small_image ≡ Ok ((saved_small_head, blank_channel small_head 0 ∷ []), record { place = 161; bytes = [] }) }
+    ensures length { length saved_small_image ≡ 162 }
+    ensures read { read_image saved_small_image ≡ Ok ((saved_small_head, blank_channel small_head 0 ∷ []), record { place = 162; bytes = [] }) }
 {}
 
-/// A full image with one page: its length, and that it is read as it was written.
+/// A full image with one page: its length, and that it is read as it was written. So is one whose page has two codewords,
+/// and each of them is tested: the sum's data byte that was changed is one of the second codeword.
 pub fn example_page_in_image()
-    ensures length { length page_image ≡ 991 }
-    ensures read { read_image page_image ≡ Ok ((saved_small_head, one_page_saved ∷ []), record { place = 991; bytes = [] }) }
+    ensures length { length page_image ≡ 992 }
+    ensures read { read_image page_image ≡ Ok ((saved_small_head, one_page_saved small_head ∷ []), record { place = 992; bytes = [] }) }
+    ensures two_words { read_image two_words_page_image
+        ≡ Ok ((saved_two_words_head, one_page_saved two_words_head ∷ []), record { place = 992; bytes = [] }) }
+    ensures no_codeword { read_image (with_bytes two_words_page_image 893 (3 ∷ [])) ≡ Err (877, sum) }
 {}
 
 /// The lists of weak and of factory bad blocks, and the first faults in them: a part out of range, an order, a bad
@@ -65,21 +87,21 @@ pub fn example_image_lists()
 
 /// The first faults in the contents of an image, of a superblock without pages and of one with a page.
 pub fn example_contents_faults()
-    ensures state { read_image (with_bytes saved_small_image 93 (5 ∷ [])) ≡ Err (93, state) }
-    ensures erases { read_image (with_bytes saved_small_image 94 (1 ∷ 0 ∷ 0 ∷ 128 ∷ [])) ≡ Err (94, range) }
-    ensures used { read_image (with_bytes saved_small_image 98 (1 ∷ [])) ≡ Err (98, count) }
-    ensures programmed { read_image (with_bytes saved_small_image 104 (1 ∷ [])) ≡ Err (104, count) }
-    ensures bad_programmed { read_image (take 107 (with_bytes (with_bytes saved_small_image 93 (3 ∷ [])) 102 (3 ∷ [])))
-        ≡ Err (102, count) }
-    ensures level { read_image (take 110 (with_bytes (with_bytes (with_bytes saved_small_image 93 (3 ∷ [])) 102 (1 ∷ [])) 108 (0 ∷ 128 ∷ [])))
-        ≡ Err (108, range) }
-    ensures second_frontier { read_image (with_bytes page_image 924 (1 ∷ [])) ≡ Err (924, state) }
-    ensures no_codeword { read_image (with_bytes page_image 876 (1 ∷ [])) ≡ Err (876, sum) }
-    ensures row_kind { read_image (with_bytes saved_small_image 153 (3 ∷ [])) ≡ Err (153, row) }
-    ensures row_superblock { read_image (take 156 (with_bytes saved_small_image 153 (1 ∷ 4 ∷ 0 ∷ []))) ≡ Err (153, row) }
-    ensures row_index { read_image (take 160 (with_bytes saved_small_image 153 (1 ∷ 0 ∷ 0 ∷ 0 ∷ 0 ∷ 0 ∷ 0 ∷ []))) ≡ Err (153, row) }
-    ensures row_repeated { read_image (take 989 page_image ++ 1 ∷ 0 ∷ 0 ∷ 0 ∷ 0 ∷ 0 ∷ 0 ∷ 9 ∷ []) ≡ Err (989, row) }
-    ensures row_short { read_image (take 986 page_image) ≡ Err (986, short) }
+    ensures state { read_image (with_bytes saved_small_image 94 (5 ∷ [])) ≡ Err (94, state) }
+    ensures erases { read_image (with_bytes saved_small_image 95 (1 ∷ 0 ∷ 0 ∷ 128 ∷ [])) ≡ Err (95, range) }
+    ensures used { read_image (with_bytes saved_small_image 99 (1 ∷ [])) ≡ Err (99, count) }
+    ensures programmed { read_image (with_bytes saved_small_image 105 (1 ∷ [])) ≡ Err (105, count) }
+    ensures bad_programmed { read_image (take 108 (with_bytes (with_bytes saved_small_image 94 (3 ∷ [])) 103 (3 ∷ [])))
+        ≡ Err (103, count) }
+    ensures level { read_image (take 111 (with_bytes (with_bytes (with_bytes saved_small_image 94 (3 ∷ [])) 103 (1 ∷ [])) 109 (0 ∷ 128 ∷ [])))
+        ≡ Err (109, range) }
+    ensures second_frontier { read_image (with_bytes page_image 925 (1 ∷ [])) ≡ Err (925, state) }
+    ensures no_codeword { read_image (with_bytes page_image 877 (1 ∷ [])) ≡ Err (877, sum) }
+    ensures row_kind { read_image (with_bytes saved_small_image 154 (3 ∷ [])) ≡ Err (154, row) }
+    ensures row_superblock { read_image (take 157 (with_bytes saved_small_image 154 (1 ∷ 4 ∷ 0 ∷ []))) ≡ Err (154, row) }
+    ensures row_index { read_image (take 161 (with_bytes saved_small_image 154 (1 ∷ 0 ∷ 0 ∷ 0 ∷ 0 ∷ 0 ∷ 0 ∷ []))) ≡ Err (154, row) }
+    ensures row_repeated { read_image (take 990 page_image ++ 1 ∷ 0 ∷ 0 ∷ 0 ∷ 0 ∷ 0 ∷ 0 ∷ 9 ∷ []) ≡ Err (990, row) }
+    ensures row_short { read_image (take 987 page_image) ≡ Err (987, short) }
 {}
 
 /// An input is an image and then a trace: what it gives, and the status of its first fault.

@@ -1,10 +1,16 @@
 //! What images and their bytes are to one another.
 ghost use Rattle.ssd_formats.specs.ImageContents.{ContentsAreRead, ContentsHaveSpelling, ImageIsRead};
-ghost use Rattle.ssd_formats.specs.ImageHead.{HeadHasSpelling, HeadIsRead};
+ghost use Rattle.ssd_formats.specs.ImageHead.{FirstHeadIsRead, HeadHasSpelling, HeadIsRead, HeadIsWithinLimits};
 
-/// A head that was written is read again, whatever follows.
+/// A head that was written is read again, whatever follows, in the second version and in the first.
 pub fn heads_are_read()
-    ensures { HeadIsRead }
+    ensures second { HeadIsRead }
+    ensures first { FirstHeadIsRead }
+{}
+
+/// The sizes of a head that has a spelling are within the limits.
+pub fn heads_are_within_limits()
+    ensures { HeadIsWithinLimits }
 {}
 
 /// Contents of a channel that were written are read again, whatever follows.

@@ -15,10 +15,11 @@ pub use generated_examples::{example_generated_head, example_generated_work};
 pub use image_examples::{
     example_contents_faults, example_image, example_image_faults, example_image_lists,
     example_input, example_page_in_image, example_saved_image, example_short_images,
+    example_two_words_image,
 };
 pub use image_laws::{
-    contents_are_read, heads_are_read, images_are_read, read_contents_have_spellings,
-    read_heads_have_spellings,
+    contents_are_read, heads_are_read, heads_are_within_limits, images_are_read,
+    read_contents_have_spellings, read_heads_have_spellings,
 };
 pub use number_laws::numbers_are_read;
 pub use text_examples::{
