@@ -6,6 +6,8 @@ use Rattle.std.proofs.lemmas.List.FromFn.{get_or-map-range_with_len}
 use Rattle.ssd_geo.specs.Bits.{bytes_sum}
 use Rattle.ssd_geo.specs.Cells.{aged_level}
 use Rattle.ssd_geo.specs.Coding.{coding_of}
+use Rattle.ssd_geo.specs.Limits.{page_cells_of}
+use Rattle.ssd_geo.specs.Shape.{sizes_of}
 use Rattle.ssd_histories.specs.PastPages.{PageChange, StoredPage, programs, programs_parity, empties, ages, leaves, aged_page, change_when, fresh_page, levels_in, levels_of, page_of, sum_of}
 use Rattle.ssd_histories.specs.Ranges.{has_place}
 use Rattle.ssd_histories.specs.Start.{Start}
@@ -31,7 +33,7 @@ aged_empty erased amount (suc n) = λ i. aged_erased erased amount i ∷ aged_em
 -- the levels of a page that was aged
 aged_stored : (base : ChannelBase) (amount : ℕ) (page : Option StoredPage)
     → map (aged_level base.law.erased amount) (levels_in base page) ≡ levels_in base (option_map (aged_page base amount) page)
-aged_stored base amount None = aged_empty base.law.erased amount (base.shape.nb * base.shape.z)
+aged_stored base amount None = aged_empty base.law.erased amount (page_cells_of (sizes_of base.shape))
 aged_stored base amount (Some page) = refl
 
 -- the levels of each page after an ageing

@@ -5,6 +5,8 @@ use Rattle.std.specs.List.{list_any}
 use Rattle.std.proofs.lemmas.Bool.Decides.{nat_tests}
 use Rattle.std.proofs.lemmas.List.{get_or-replicate, length-replicate}
 use Rattle.std.proofs.lemmas.Option.{slice_get_past}
+use Rattle.ssd_geo.specs.Limits.{page_cells_of}
+use Rattle.ssd_geo.specs.Shape.{sizes_of}
 use Rattle.ssd_histories.specs.Blocks as Blocks
 use Rattle.ssd_geo.specs.Coding.{coding_of, word_bytes_in}
 use Rattle.ssd_histories.specs.PastBlocks.{block_before, blocks_of, state_of}
@@ -108,7 +110,7 @@ sum_at_start start contents is_start =
 -- the cells of blank dies
 abbrev pub blank_state : ChannelBase → CellsState
 blank_state base = record {
-  pages = replicate (base.shape.dies * base.shape.superblocks * base.shape.pages) (replicate (base.shape.nb * base.shape.z) base.law.erased);
+  pages = replicate (base.shape.dies * base.shape.superblocks * base.shape.pages) (replicate (page_cells_of (sizes_of base.shape)) base.law.erased);
   sum = base.sum;
 }
 
@@ -139,6 +141,6 @@ blank_sizes base limit blank = record {
       ap {B = ℕ} (λ (levels : List ℤ). length levels)
       (get_or-replicate (base.shape.dies * base.shape.superblocks * base.shape.pages) number (empty_levels base) []
       (omega (arith, length-replicate (base.shape.dies * base.shape.superblocks * base.shape.pages) (empty_levels base))))
-      ∙ length-replicate (base.shape.nb * base.shape.z) base.law.erased;
+      ∙ length-replicate (page_cells_of (sizes_of base.shape)) base.law.erased;
   sum_bytes = blank.is_start.sum_bytes;
 }

@@ -1,18 +1,21 @@
 -- The program of a slot leaves as many pages, of as many cells each, and a sum of as many bytes.
-use Rattle.std.proofs.Common.{◌≡◌, ℕ, ◌*◌, ◌/◌, ◌%◌, ◌<◌, Bool, true, false, List, [], length, get_or, set, ℤ, ap, sym, ◌∙◌, inl, inr, arith, get_or-set_same, length-set}
+use Rattle.std.proofs.Common.{◌≡◌, ℕ, ◌*◌, ◌<◌, Bool, true, false, List, [], length, get_or, set, ℤ, ap, sym, ◌∙◌, inl, inr, arith, get_or-set_same, length-set}
 use Rattle.std.proofs.lemmas.Bool.{cases_eq}
 use Rattle.std.proofs.lemmas.List.{get_or-set_other, length-replicate}
 use Rattle.std.proofs.lemmas.List.FromFn.{length-map-range_with_len}
 use Rattle.ssd_geo.specs.Bits.{bytes_sum}
 use Rattle.ssd_geo.specs.Cells.{fresh_level, fresh_levels}
 use Rattle.ssd_geo.specs.Coding.{word_bytes_in}
+use Rattle.ssd_geo.specs.Limits.{code_bytes_of, page_cells_of}
 use Rattle.ssd_geo.specs.Noise.{start_of_program}
+use Rattle.ssd_geo.specs.Shape.{sizes_of}
 use Rattle.ssd_geo.specs.Stripe.{is_last_of_stripe, place_of_parity, place_of_slot, stripe_of_index}
 use Rattle.ssd_geo.specs.StripeSum.{zero_word}
 use Rattle.ssd_geo.specs.declared.cell_law.CellLaw.{CellLaw}
 use Rattle.ssd_geo.specs.declared.place.Place.{Place}
 use Rattle.ssd_geo.specs.declared.shape.Shape.{Shape}
 use Rattle.ssd_geo.specs.declared.slot.Slot.{Slot}
+use Rattle.ssd_geo.proofs.Sizes.{eight_times, whole_eighths}
 use Rattle.ssd_geo.proofs.WordSums.{length-bytes_sum}
 use Rattle.chan_state.specs.CellsState.{AreCellsOf, CellsState, cells_after_program, pages_after_program, programmed_levels}
 use Rattle.chan_state.specs.ChannelState.{page_number}
@@ -22,15 +25,15 @@ pub length-fresh_levels : (law : CellLaw) (place erases : ℕ) (word : List ℕ)
 length-fresh_levels law place erases word = length-map-range_with_len (fresh_level law (start_of_program law.seed place erases) word) 0 (8 * length word)
 
 -- a word has a bit for each cell of a page
-pub word_bits : (shape : Shape) (n : ℕ) → n ≡ word_bytes_in shape → 8 * n ≡ shape.nb * shape.z
-word_bits shape n e = whole n (shape.nb * shape.z) e shape.within.whole_word_bytes
-  where
-    whole : (n m : ℕ) → n ≡ m / 8 → m % 8 ≡ 0 → 8 * n ≡ m
-    whole n m e none = omega arith
+pub word_bits : (shape : Shape) (n : ℕ) → n ≡ word_bytes_in shape → 8 * n ≡ page_cells_of (sizes_of shape)
+word_bits shape n e =
+    ap (λ (m : ℕ). 8 * m) e
+    ∙ eight_times shape.words (code_bytes_of (sizes_of shape))
+    ∙ ap (λ (m : ℕ). shape.words * m) (whole_eighths (shape.nb * shape.z) shape.within.whole_word_bytes)
 
 -- each page of a list has its cells
 abbrev pub HaveCells : Shape → List (List ℤ) → Type 0
-HaveCells shape pages = (number : ℕ) → number < length pages → length (get_or pages number []) ≡ shape.nb * shape.z
+HaveCells shape pages = (number : ℕ) → number < length pages → length (get_or pages number []) ≡ page_cells_of (sizes_of shape)
 
 pub pages_keep_cells : (shape : Shape) (law : CellLaw) (channel erases : ℕ) (word : List ℕ) (pages : List (List ℤ)) (place : Place) → length word ≡ word_bytes_in shape
     → HaveCells shape pages → HaveCells shape (pages_after_program shape law channel erases word pages place)

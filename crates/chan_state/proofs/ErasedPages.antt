@@ -1,11 +1,13 @@
 -- A superblock's pages are emptied one by one. That leaves as many pages, of as many cells each.
-use Rattle.std.proofs.Common.{◌≡◌, ℕ, ◌+◌, ◌*◌, ◌<◌, ◌≤◌, Bool, true, false, List, [], length, map, get_or, replicate, set, ℤ, refl, ap, sym, ◌∙◌, subst, Vec, inl, inr, arith, get_or-set_same, length-set}
+use Rattle.std.proofs.Common.{◌≡◌, ℕ, ◌+◌, ◌<◌, ◌≤◌, Bool, true, false, List, [], length, map, get_or, replicate, set, ℤ, refl, ap, sym, ◌∙◌, subst, Vec, inl, inr, arith, get_or-set_same, length-set}
 use Rattle.std.specs.Prelude.{if◌then◌else◌}
 use Rattle.std.specs.List.{range_with_len}
 use Rattle.std.proofs.lemmas.Bool.{cases_eq}
 use Rattle.std.proofs.lemmas.List.{get_or-map, get_or-set_other, length-map, length-replicate, map-set, with_items_is}
 use Rattle.std.proofs.lemmas.List.FromFn.{fill_by_all, get_or-map-range_with_len, length-map-range_with_len}
 use Rattle.std.specs.Vec.{with_items}
+use Rattle.ssd_geo.specs.Limits.{page_cells_of}
+use Rattle.ssd_geo.specs.Shape.{sizes_of}
 use Rattle.ssd_geo.specs.declared.cell_law.CellLaw.{CellLaw}
 use Rattle.ssd_geo.specs.declared.shape.Shape.{Shape}
 use Rattle.chan_state.specs.CellsState.{AreCellsOf, CellsState, cells_after_erase, is_in_superblock, page_after_erase, pages_after_erase}
@@ -38,12 +40,12 @@ all_done after first now done = fill_by_all after now (length first) [] done.as_
 
 -- a page that was emptied or left, by a test
 pub page_is_after : (shape : Shape) (erased : ℤ) (sb number : ℕ) (first : List (List ℤ)) (before page : List ℤ) (inside : Bool) → inside ≡ is_in_superblock shape sb number
-    → before ≡ get_or first number [] → length before ≡ shape.nb * shape.z → page ≡ (if inside then replicate (length before) erased else before)
+    → before ≡ get_or first number [] → length before ≡ page_cells_of (sizes_of shape) → page ≡ (if inside then replicate (length before) erased else before)
     → page ≡ page_after_erase shape erased sb first number
 page_is_after shape erased sb number first before page inside test is size page_is =
-    page_is ∙ by_test inside ∙ ap {B = List ℤ} (λ (b : Bool). elim b [ true ↦ replicate (shape.nb * shape.z) erased | false ↦ get_or first number [] ]) test
+    page_is ∙ by_test inside ∙ ap {B = List ℤ} (λ (b : Bool). elim b [ true ↦ replicate (page_cells_of (sizes_of shape)) erased | false ↦ get_or first number [] ]) test
   where
-    by_test : (b : Bool) → ◌≡◌ {A = List ℤ} (if b then replicate (length before) erased else before) (elim b [ true ↦ replicate (shape.nb * shape.z) erased | false ↦ get_or first number [] ])
+    by_test : (b : Bool) → ◌≡◌ {A = List ℤ} (if b then replicate (length before) erased else before) (elim b [ true ↦ replicate (page_cells_of (sizes_of shape)) erased | false ↦ get_or first number [] ])
     by_test true = ap {B = List ℤ} (λ (n : ℕ). replicate n erased) size
     by_test false = is
 
@@ -60,7 +62,7 @@ one_more_emptied {Z} shape erased sb number first kept page levels emptied lt si
     let count : length seen ≡ length first = length-map first (λ (v : Vec ℤ Z). v.items) in
     let was : levels ≡ get_or seen number [] =
     read ∙ sym (get_or-map (λ (v : Vec ℤ Z). v.items) kept number page [] (omega (arith, size))) ∙ before.rest number (omega arith) in
-    let bytes : length levels ≡ shape.nb * shape.z = ap {B = ℕ} (λ (l : List ℤ). length l) was ∙ cells number (omega (arith, count)) in
+    let bytes : length levels ≡ page_cells_of (sizes_of shape) = ap {B = ℕ} (λ (l : List ℤ). length l) was ∙ cells number (omega (arith, count)) in
     let page_is : emptied ≡ page_after_erase shape erased sb seen number =
     page_is_after shape erased sb number seen levels emptied (is_in_superblock shape sb number) refl was bytes is in
     let stored : map (λ (v : Vec ℤ Z). v.items) (set kept number (with_items (get_or kept number page) emptied)) ≡ set (map (λ (v : Vec ℤ Z). v.items) kept) number emptied =
@@ -84,7 +86,7 @@ erase_keeps_sizes shape law sb cells before = record {
     count : length (pages_after_erase shape law.erased sb cells.pages) ≡ length cells.pages
     count = length-map-range_with_len (page_after_erase shape law.erased sb cells.pages) 0 (length cells.pages)
 
-    size_if : (number : ℕ) (b : Bool) → length (get_or cells.pages number []) ≡ shape.nb * shape.z
-        → length (elim b as (λ _. List ℤ) [ true ↦ replicate (shape.nb * shape.z) law.erased | false ↦ get_or cells.pages number [] ]) ≡ shape.nb * shape.z
-    size_if number true e = length-replicate (shape.nb * shape.z) law.erased
+    size_if : (number : ℕ) (b : Bool) → length (get_or cells.pages number []) ≡ page_cells_of (sizes_of shape)
+        → length (elim b as (λ _. List ℤ) [ true ↦ replicate (page_cells_of (sizes_of shape)) law.erased | false ↦ get_or cells.pages number [] ]) ≡ page_cells_of (sizes_of shape)
+    size_if number true e = length-replicate (page_cells_of (sizes_of shape)) law.erased
     size_if number false e = e

@@ -6,10 +6,12 @@ use Rattle.std.specs.List.{range_with_len}
 use Rattle.ssd_geo.specs.Bits.{bytes_sum}
 use Rattle.ssd_geo.specs.Cells.{aged_level, fresh_levels}
 use Rattle.ssd_geo.specs.Coding.{coding_of, word_bytes_in}
+use Rattle.ssd_geo.specs.Limits.{page_cells_of}
 use Rattle.ssd_geo.specs.Noise.{number_of_page}
 use Rattle.ssd_histories.specs.PastPages.{levels_of, running_sum}
 use Rattle.ssd_histories.specs.Ranges.{has_place}
 use Rattle.ssd_histories.specs.Start.{Start}
+use Rattle.ssd_geo.specs.Shape.{sizes_of}
 use Rattle.ssd_geo.specs.Stripe.{is_last_of_stripe, place_of_parity, place_of_slot, stripe_of_index}
 use Rattle.ssd_geo.specs.StripeSum.{zero_word}
 use Rattle.ssd_geo.specs.declared.cell_law.CellLaw.{CellLaw}
@@ -28,7 +30,7 @@ pub record CellsState : Type 0 where
 -- the cells are those of a channel with these sizes: it has so many pages, each has its cells, and the sum is a word's
 pub record AreCellsOf (shape : Shape) (cells : CellsState) : Type 0 where
   pub pages_count : length cells.pages ≡ shape.dies * shape.superblocks * shape.pages
-  pub page_cells : (number : ℕ) → number < length cells.pages → length (slice_index_or cells.pages number []) ≡ shape.nb * shape.z
+  pub page_cells : (number : ℕ) → number < length cells.pages → length (slice_index_or cells.pages number []) ≡ page_cells_of (sizes_of shape)
   pub sum_bytes : length cells.sum ≡ word_bytes_in shape
 
 -- the levels that a program of a word leaves in the page of a place
@@ -86,7 +88,7 @@ is_in_superblock shape sb number = number / shape.pages % shape.superblocks == s
 abbrev pub page_after_erase : Shape → ℤ → ℕ → List (List ℤ) → ℕ → List ℤ
 page_after_erase shape erased sb pages number =
     elim (is_in_superblock shape sb number) [
-      | true ↦ replicate (shape.nb * shape.z) erased
+      | true ↦ replicate (page_cells_of (sizes_of shape)) erased
       | false ↦ slice_index_or pages number []
     ]
 

@@ -1,8 +1,10 @@
 ghost use Rattle.std.specs.Prelude.{◌≡◌, ℕ, ◌*◌, ◌<◌, [], IfOk, IsTrue, if◌then◌else◌, length, map, replicate, slice_index_or};
 ghost use Rattle.ssd_geo.specs.Cells.{IsCellLaw, aged_level, sensed};
 ghost use Rattle.ssd_geo.specs.Coding.{word_bytes_in};
+ghost use Rattle.ssd_geo.specs.Limits.{page_cells_of};
 ghost use Rattle.ssd_geo.specs.Noise.{number_of_page};
 ghost use Rattle.ssd_histories.specs.Ranges.{has_place};
+ghost use Rattle.ssd_geo.specs.Shape.{sizes_of};
 ghost use Rattle.ssd_geo.specs.Stripe.{is_last_of_stripe, place_of_parity, stripe_of_index};
 ghost use Rattle.ssd_geo.specs.Superblock.{slots_of};
 ghost use Rattle.chan_state.specs.CellsState.{pages_after_erase, pages_after_program};
@@ -38,12 +40,12 @@ impl Cells {
     pub fn new(alloc: Global, shape: &Shape, erased: i16, sum: Vec<u8>) -> Result<Cells, Memory>
         ensures { IfOk result (λ cells. cells ≡ record {
           pages = replicate (shape.now.dies * shape.now.superblocks * shape.now.pages)
-              (replicate (shape.now.nb * shape.now.z) erased);
+              (replicate (page_cells_of (sizes_of shape.now)) erased);
           sum = sum.items;
         }) }
     {
         let count = shape.dies as u32 * shape.superblocks as u32 * shape.pages as u32;
-        let pages = blank_pages(alloc, count, shape.nb as usize * shape.z as usize, erased)?;
+        let pages = blank_pages(alloc, count, 8 * shape.word_bytes(), erased)?;
         Ok(Cells {
             pages,
             sum: StripeSum::new(sum),
@@ -172,7 +174,7 @@ fn program_page(
 fn empty_pages(pages: &mut [Vec<i16>], shape: &Shape, erased: i16, sb: u16)
     requires { let levels = map (λ page. page.items) pages.old in
         (number : ℕ) → number < length levels
-        → length (slice_index_or levels number []) ≡ shape.now.nb * shape.now.z }
+        → length (slice_index_or levels number []) ≡ page_cells_of (sizes_of shape.now) }
     ensures { let levels = map (λ page. page.items) pages.old in
         map (λ page. page.items) pages.new ≡ pages_after_erase shape.now erased sb levels }
 {
