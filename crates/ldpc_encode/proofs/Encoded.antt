@@ -8,7 +8,7 @@ use Rattle.std.proofs.lemmas.List.FromFn.{length-map-range_with_len}
 use Rattle.std.proofs.lemmas.Nat.{div_below, div-add-mod', mod_below}
 use Rattle.ssd_geo.specs.Bits.{bit_of, bit_sum, bits_of, bytes_of}
 use Rattle.ssd_geo.specs.BaseMatrix.{BaseMatrix, IsAccepted, has_middle_before, message_columns, parity_entry}
-use Rattle.ssd_geo.specs.Codewords.{coded_bits, first_parity, parity_block, payload_bits, shift_of, word_bits, word_of}
+use Rattle.ssd_geo.specs.Codewords.{code_of, coded_bits, first_parity, parity_block, payload_bits, shift_of, word_bits}
 use Rattle.qc_matrix.proofs.OddSums.{bit_sum-assoc, bits_of-at}
 use Rattle.ssd_bits.proofs.Sums.{same-bytes}
 use Rattle.ldpc_encode.proofs.Blocks.{get_or-first_parity, get_or-next_parity, get_or-second_parity}
@@ -101,7 +101,7 @@ module _ (m : BaseMatrix) (ok : IsAccepted m) (payload : List ℕ) where
           ∙ sym (coded-parity m ok (bits_of (payload_bits m) payload) long t c row low))
     ]
 
-    pub word-is : length out ≡ (word_bits m + 7) / 8 → ((i : ℕ) → get_or out i 0 < 256) → out ≡ word_of m payload
+    pub word-is : length out ≡ (word_bits m + 7) / 8 → ((i : ℕ) → get_or out i 0 < 256) → out ≡ code_of m payload
     word-is whole small =
         let bits : List Bool = coded_bits m (bits_of (payload_bits m) payload) in
         let count : length bits ≡ word_bits m = length-coded m ok (bits_of (payload_bits m) payload) long in

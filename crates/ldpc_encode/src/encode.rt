@@ -2,7 +2,7 @@ ghost use Rattle.std.specs.Prelude.{◌≡◌, ◌+◌, ◌*◌, ◌/◌, ◌<�
 ghost use Rattle.ssd_geo.specs.Bits.{bit_of};
 ghost use Rattle.ldpc_encode.specs.Encoding.{AddsToParity, first_added, rows_sum_bit, sums_added};
 ghost use Rattle.ssd_geo.specs.BaseMatrix.{IsAccepted};
-ghost use Rattle.ssd_geo.specs.Codewords.{IsOnlyCodewordOf, payload_bits, word_bits, word_of};
+ghost use Rattle.ssd_geo.specs.Codewords.{IsOnlyCodewordOf, code_of, payload_bits, word_bits};
 
 use super::message::{add_message_sum, copy_message};
 use super::parity::add_first;
@@ -16,7 +16,7 @@ const BLOCK_BYTES: usize = 128;
 pub fn encode_into(code: &Code, payload: &[u8], out: &mut [u8])
     requires payload_bits { length payload.now ≡ (payload_bits code.now + 7) / 8 }
     requires word_bits { length out.old ≡ (word_bits code.now + 7) / 8 }
-    ensures word { out.new ≡ word_of code.now payload.now }
+    ensures word { out.new ≡ code_of code.now payload.now }
     ensures only { IsOnlyCodewordOf code.now payload.now out.new }
 {
     let z = code.z() as usize;

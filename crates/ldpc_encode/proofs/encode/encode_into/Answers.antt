@@ -1,7 +1,7 @@
 -- The message, the sums of rows and the first parity block are the word, and that is the only codeword.
 use Rattle.std.proofs.Common.{◌≡◌, ℕ, ◌-◌, ◌*◌, List, ap, ◌∙◌, subst, sym, arith}
 use Rattle.ssd_geo.specs.BaseMatrix.{BaseMatrix}
-use Rattle.ssd_geo.specs.Codewords.{IsOnlyCodewordOf, payload_bits, word_of}
+use Rattle.ssd_geo.specs.Codewords.{IsOnlyCodewordOf, code_of, payload_bits}
 use Rattle.qc_matrix.proofs.OddSums.{bit_of-zeros}
 use Rattle.ldpc_encode.proofs.Encoded.{word-is}
 use Rattle.ldpc_encode.proofs.TheWord.{only-codeword}
@@ -10,7 +10,7 @@ use Rattle.ldpc_encode.proofs.encode.encode_into.Goals as goal
 pub add_sums-requires-clause-blank : goal.add_sums-requires-clause-blank
 add_sums-requires-clause-blank c = λ r _. bit_of-zeros 128 r
 
-encoded : (c : goal.After-slice_known-4-1) → c.add_first_parity.new.out ≡ word_of c.args.code.now c.args.payload.now
+encoded : (c : goal.After-slice_known-4-1) → c.add_first_parity.new.out ≡ code_of c.args.code.now c.args.payload.now
 encoded c =
     let m : BaseMatrix = c.args.code.now in
     let kb : c.nb.result - c.mb.result ≡ m.nb - m.mb = omega (arith, c.nb.ensures.value, c.mb.ensures.value) in
