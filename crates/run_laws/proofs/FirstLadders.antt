@@ -1,9 +1,9 @@
 -- A ladder asks first for a sense at the first read level, and where all codewords are found from it and their word is
 -- accepted, that decides it.
-use Rattle.std.proofs.Common.{◌≡◌, ℕ, Bool, true, List, [], ◌∷◌, ℤ, Option, Some, None, refl, ap}
+use Rattle.std.proofs.Common.{◌≡◌, ℕ, Bool, true, false, List, [], ◌∷◌, ℤ, Option, Some, None, refl, ap, ◌∙◌}
 use Rattle.std.specs.Prelude.{option_map, slice_get}
 use Rattle.ssd_geo.specs.Coding.{Coding}
-use Rattle.ssd_geo.specs.Ladder.{PageState, PlaceState, all_kept, asks, best_level, found, hard_work, kept_with, ladder, none_kept, page_accepted, page_decoded, place_work, recovered, soft_work, wants, whole}
+use Rattle.ssd_geo.specs.Ladder.{PageState, PlaceState, all_kept, asks, best_level, found, hard_work, kept_with, ladder, none_kept, page_accepted, page_decoded, partly, place_work, recovered, soft_work, wants, whole}
 use Rattle.ssd_geo.specs.declared.place.Place.{Place}
 
 -- what comes after the hard part
@@ -23,12 +23,19 @@ asks_first coding accepts place others closed level is =
     wants_first coding accepts (soft_work coding accepts (best_level coding [])) coding.levels level 0 (none_kept coding) is in
     rw (work, ladder) refl
 
+-- a word that is accepted
+accepted_is : (coding : Coding) (codes : List (List ℕ)) (word : List ℕ) (b : Bool) → coding.joined codes ≡ word → b ≡ true
+    → ◌≡◌ {A = PageState} (elim b [ true ↦ whole (coding.joined codes) | false ↦ partly (none_kept coding) ]) (whole word)
+accepted_is coding codes word true same e = ap whole same
+accepted_is coding codes word false same e = absurd (cc)
+
 -- codewords that were all found, and whose word is accepted
 all_found : (coding : Coding) (accepts : List ℕ → Bool) (kept : List (Option (List ℕ))) (codes : Option (List (List ℕ))) (word : List ℕ)
     → option_map coding.joined codes ≡ Some word → accepts word ≡ true → page_accepted coding accepts kept codes ≡ whole word
 all_found coding accepts kept None word is_found is_accepted = absurd (cc)
 all_found coding accepts kept (Some codes) word is_found is_accepted =
-    let same : coding.joined codes ≡ word = cc in rw same (rw is_accepted refl)
+    let same : coding.joined codes ≡ word = cc in
+    accepted_is coding codes word (accepts (coding.joined codes)) same (ap accepts same ∙ is_accepted)
 
 -- the first sense decides then
 first_found : (coding : Coding) (accepts : List ℕ → Bool) (after : After) (levels : List ℤ) (level : ℤ) (rung : ℕ) (sense word : List ℕ) → slice_get levels 0 ≡ Some level
