@@ -10,6 +10,7 @@ pub mod ReadReplies
 pub mod RecoveredReads
 pub mod RowWords
 pub mod SettledLadders
+pub mod StartPages
 pub mod StepParts
 pub mod WordData
 pub mod WritingCalls

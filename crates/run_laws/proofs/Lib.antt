@@ -20,6 +20,7 @@ pub mod ReadPages
 pub mod RoomLeft
 pub mod RunHeadline
 pub mod SenseSteps
+pub mod SerialHeadline
 pub mod ServedNext
 pub mod ServedOrder
 pub mod ServedReads

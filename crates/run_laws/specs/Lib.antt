@@ -5,6 +5,7 @@ pub mod PrintedRuns
 pub mod Runs
 pub mod ServedPasts
 pub mod ServedRuns
+pub mod SerialRuns
 pub mod Starts
 pub mod StoppedRuns
 pub mod WrittenRoom

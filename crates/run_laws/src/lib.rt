@@ -3,9 +3,11 @@
 #![tactic(auto)]
 
 mod pages;
+mod serial;
 mod serving;
 
 pub use pages::{no_page_is_lost, pages_are_read_at_once, plain_pasts_have_room};
+pub use serial::{serial_runs_hold, serial_stops_hold};
 pub use serving::{
     run_texts_tell_pasts, served_runs_have_room, served_runs_hold, served_runs_stop,
     serves_one_more, serving_begins, tags_give_data, uncounted_faults_are_none,

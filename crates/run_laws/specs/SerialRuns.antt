@@ -1,0 +1,67 @@
+-- When does the statement hold of a run whose calls were served one after the other? Where the calls are numbered and have
+-- their data, each channel has a past of its start, and the calls were served in their order, each with the reply of its
+-- own entries. Which verbs they have doesn't matter, nor what the channels began with. Each law is the contract of a
+-- function without a body.
+use Rattle.std.specs.Prelude.{ℕ, ◌≡◌, IsTrue, List, [], ◌∷◌, ◌++◌, length, map, replicate, All, count_by, slice_index_or, ⊤}
+use Rattle.std.specs.List.{list_all}
+use Rattle.ssd_formats.specs.HistoryText.{are_spelled_histories}
+use Rattle.ssd_formats.specs.ImageHead.{Head}
+use Rattle.ssd_formats.specs.TraceText.{content_bytes, is_of_actor, kinds_of_actor}
+use Rattle.ssd_geo.specs.declared.reply.Reply.{Reply}
+use Rattle.ssd_geo.specs.declared.tag.Tag.{Tag}
+use Rattle.ssd_geo.specs.declared.trace.TraceCall.{TraceCall}
+use Rattle.ssd_geo.specs.declared.trace.Verb.{Verb}
+use Rattle.ssd_histories.specs.CallsInOrder.{AreNumberedAfter, IsReplyOf, is_left}
+use Rattle.ssd_histories.specs.History.{history_of}
+use Rattle.ssd_histories.specs.HistoryRoom.{found_room}
+use Rattle.ssd_histories.specs.LastWrites.{IsData}
+use Rattle.ssd_histories.specs.Lawful.{IsLawful}
+use Rattle.ssd_histories.specs.SerialHistory.{IsSerialRun, SerialCall, SerialState, first_state}
+use Rattle.ssd_histories.specs.Standing.{IsPastOf}
+use Rattle.ssd_histories.specs.Start.{Start}
+use Rattle.run_laws.specs.Headline.{AreCounted, Headline, IsStoppedRun, IsWholeRun}
+use Rattle.run_laws.specs.Runs.{Run, channels_of, data_in}
+
+-- the data of a write are so many bytes; the other verbs have none
+abbrev pub HasData : ℕ → Verb → Type 0
+HasData count (Verb.Write page content) = IsData count (content_bytes count content)
+HasData count verb = ⊤
+
+-- the calls of a run are numbered and have their data, each channel has pages of as many data bytes as the image, and there
+-- are replies of each actor
+pub record HasCalls (head : Head) (run : Run) : Type 0 where
+  pub numbered : AreNumberedAfter run.calls.actors [] run.calls.calls
+  pub have_data : All (λ call. HasData head.sizes.bytes call.verb) run.calls.calls
+  pub same_bytes : All (λ start. start.base.shape.bytes ≡ head.sizes.bytes) run.starts
+  pub as_many_actors : length run.replies ≡ run.calls.actors
+
+-- what the channels of a run have by themselves: each a past of its start, each entry of which found room, dies that counted
+-- the faults of which the entries tell, and a history that a text spells
+pub record ChannelsHold (head : Head) (run : Run) : Type 0 where
+  pub as_many_pasts : length run.pasts ≡ length run.starts
+  pub are_pasts : All (λ channel. IsPastOf channel.start (data_in head run) channel.past) (channels_of run)
+  pub have_room : All (λ channel. IsTrue (found_room channel.start.limit channel.past)) (channels_of run)
+  pub are_counted : AreCounted (channels_of run) run.faults
+  pub are_spelled : IsTrue (are_spelled_histories (map history_of run.pasts))
+
+-- a run between two calls, with these hints in its queue
+abbrev pub state_of : Run → List ℕ → SerialState
+state_of run hints = record { channels = channels_of run; hints = hints; dropped = run.dropped }
+
+-- what holds when all calls were served
+pub record IsHeadlineOfWhole (head : Head) (run : Run) : Type 0 where
+  pub headline : Headline head run
+  pub is_whole : IsWholeRun head run
+
+-- the statement holds of a run whose calls were all served one after the other
+abbrev pub SerialRunsHold : Type 0
+SerialRunsHold =
+    (head : Head) (run : Run) (hints : List ℕ) → HasCalls head run → ChannelsHold head run →
+    IsSerialRun (data_in head run) run.starts run.calls.calls run.replies (state_of run hints) → IsHeadlineOfWhole head run
+
+-- and of a run that stopped in a call, each look of which has its leave
+abbrev pub SerialStopsHold : Type 0
+SerialStopsHold =
+    (head : Head) (run : Run) (channel entries : ℕ) (stopped : IsStoppedRun head run channel entries) →
+    HasCalls head run → ChannelsHold head run →
+    IsTrue (list_all (is_left stopped.is_stop.call.tag) (channels_of run)) → Headline head run
