@@ -1,3 +1,4 @@
+pub mod AddedReplies
 pub mod AnsweredCalls
 pub mod BegunRuns
 pub mod BlankRows
@@ -21,6 +22,7 @@ pub mod RoomLeft
 pub mod RunHeadline
 pub mod SenseSteps
 pub mod SerialHeadline
+pub mod ServedFronts
 pub mod ServedNext
 pub mod ServedOrder
 pub mod ServedReads

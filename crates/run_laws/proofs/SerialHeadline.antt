@@ -67,7 +67,7 @@ all_channels P Q R follows (start ∷ starts) (past ∷ pasts) of_starts of_runs
     (all_channels P Q R follows starts pasts (All-tail P start starts of_starts) (All-tail Q run (runs_with starts pasts) of_runs))
 
 -- each call that was served has its reply
-all_answered : (contents : List (Tag × List ℕ)) (replies : List (List Reply)) (channels : ℕ) {calls : List TraceCall}
+pub all_answered : (contents : List (Tag × List ℕ)) (replies : List (List Reply)) (channels : ℕ) {calls : List TraceCall}
     {before after : SerialState} → AreServed contents replies channels calls before after →
     All (λ call. is_some (reply_to replies call.tag) ≡ true) calls
 all_answered contents replies channels none_left = All-nil (λ (call : TraceCall). is_some (reply_to replies call.tag) ≡ true)
