@@ -8,10 +8,10 @@ use Rattle.ssd_geo.specs.declared.trace.TraceCall.{TraceCall}
 use Rattle.ssd_geo.specs.declared.trace.Verb.{Verb}
 use Rattle.run_laws.specs.ServedRuns.{channel_of}
 use Rattle.run_laws.specs.WrittenRoom.{writes_in, writes_to}
-use Rattle.run_laws.proofs.ChangedRuns.{get_set, get_set_other, one_or_other}
+use Rattle.serial_laws.proofs.Lists.{get_set_other, not_true}
+use Rattle.run_laws.proofs.ChangedRuns.{get_set, one_or_other}
 use Rattle.run_laws.proofs.MadeCalls.{one_write, same_Some}
-use Rattle.run_laws.proofs.MadeReads.{same_held}
-use Rattle.run_laws.proofs.NumberedCalls.{not_true}
+use Rattle.serial_laws.proofs.Lists as Lists
 
 -- a call of another channel is no write to one
 no_write_elsewhere : (channels channel k : ℕ) (verb : Verb) → channel_of channels verb ≡ Some channel →
@@ -42,7 +42,7 @@ still_counts_writes channels channel pasts past after done call on is more befor
         let here : slice_get (slice_set pasts channel after) k ≡ Some after =
         ap (slice_get (slice_set pasts channel after)) same ∙ get_set pasts channel after
         (slice_get_within pasts channel past is) in
-        let held_is : held ≡ after = same_held held after (sym there ∙ here) in
+        let held_is : held ≡ after = Lists.same_Some held after (sym there ∙ here) in
         let counted = before channel past is in
         let total = pushed channel in
         let own : writes_in held ≡ writes_in after = ap writes_in held_is in

@@ -1,20 +1,16 @@
 -- The calls that change a row or a block, each by one entry: a write, a trim and an ageing.
-use Rattle.std.proofs.Common.{ℕ, ◌≡◌, ◌+◌, ◌%◌, ◌/◌, true, false, cond, List, [], ◌∷◌, Some, None, refl, sym, ap, subst, inl, ◌∙◌, eq-eqb, arith}
-use Rattle.std.specs.Prelude.{All, ◌==◌, IsTrue, IsSomeAnd, slice_get}
+use Rattle.std.proofs.Common.{ℕ, ◌≡◌, ◌+◌, ◌%◌, ◌/◌, true, false, cond, List, [], ◌∷◌, Some, refl, sym, ap, subst, ◌∙◌, eq-eqb, arith}
+use Rattle.std.specs.Prelude.{IsTrue, IsSomeAnd, slice_get}
 use Rattle.std.proofs.lemmas.List.Elements.{All-nil, All-cons}
 use Rattle.std.proofs.lemmas.List.Sums.{sum_by-cons}
 use Rattle.ssd_histories.specs.CallSteps.{steps_of}
-use Rattle.ssd_histories.specs.CallsInOrder.{AreStepsOf, is_age_of, is_trim_of, ladder_in, steps_on}
-use Rattle.ssd_geo.specs.Coding.{coding_of}
-use Rattle.ssd_geo.specs.Ladder.{LadderState}
-use Rattle.ssd_histories.specs.PastPages.{ladder_of, sense_for}
+use Rattle.ssd_histories.specs.CallsInOrder.{is_age_of, is_trim_of, ladder_in, steps_on}
 use Rattle.ssd_histories.specs.Replies.{single_reply, write_reply}
 use Rattle.ssd_histories.specs.Room.{has_host_room}
-use Rattle.ssd_histories.specs.Rounds.{IsWrite, IsWritePart, is_one}
+use Rattle.ssd_histories.specs.Rounds.{is_one}
 use Rattle.ssd_histories.specs.SerialCalls.{SerialWrite, entry_of, writes}
 use Rattle.ssd_histories.specs.SerialHistory.{HasForm}
-use Rattle.ssd_histories.specs.Start.{Start, data_of}
-use Rattle.ssd_geo.specs.declared.base.ChannelBase.{ChannelBase}
+use Rattle.ssd_histories.specs.Start.{Start}
 use Rattle.ssd_geo.specs.declared.entry.Entry.{Entry}
 use Rattle.ssd_geo.specs.declared.kind.Kind.{Kind}
 use Rattle.ssd_geo.specs.declared.reply.Reply.{Reply}
@@ -24,32 +20,10 @@ use Rattle.ssd_geo.specs.declared.trace.Content.{Content}
 use Rattle.ssd_geo.specs.declared.trace.Verb.{Verb}
 use Rattle.ssd_formats.proofs.TextLaws.{same_byte}
 use Rattle.ssd_histories.specs.ServedCalls.{after_age, after_trim, after_write}
-use Rattle.run_laws.specs.ServedPasts.{IsPlainKind}
-use Rattle.ssd_histories.specs.LastWrites.{IsData}
-use Rattle.run_laws.specs.WrittenRoom.{is_write, writes_in}
-use Rattle.run_laws.proofs.GrownPasts.{faults_in, one_step_more}
-use Rattle.run_laws.proofs.MadeCalls.{IsMade, no_more_writes, on_channel, on_own, on_run, one_step, one_write}
-use Rattle.run_laws.proofs.WholeCalls.{run_of}
+use Rattle.run_laws.specs.WrittenRoom.{IsUncollected, is_write, writes_in}
+use Rattle.run_laws.proofs.MadeCalls.{IsMade, no_more_writes, on_channel, on_run, one_step, one_step_more, one_write, run_of}
 
-pub is_written : (ladder : List Entry → ℕ → LadderState) (base : ChannelBase) (tag : Tag) (row : ℕ)
-    (slot : Slot) (past : List Entry) →
-    IsWrite ladder base row (one_step tag (Kind.Write row slot) past)
-is_written ladder base tag row slot past = record {
-  parts = [];
-  last = one_step tag (Kind.Write row slot) past;
-  are_steps = refl;
-  are_parts = All-nil (IsWritePart ladder base row);
-  ends = inl (same_byte row);
-  have_cause = refl;
-}
-
--- one entry is no sense, and no write where its kind is none
-spared : (kind : Kind) → ((at : ℕ) → sense_for at kind ≡ None) → (at : ℕ) →
-    All (λ other. sense_for at other ≡ None) (kind ∷ [])
-spared kind none at =
-    All-cons (λ other. sense_for at other ≡ None) kind [] (none at)
-    (All-nil (λ other. sense_for at other ≡ None))
-
+-- an entry that is no write adds none
 no_write : (tag : Tag) (kind : Kind) (past : List Entry) → is_write kind ≡ false →
     writes_in (entry_of tag kind ∷ past) ≡ writes_in past + 0
 no_write tag kind past none =
@@ -72,40 +46,23 @@ module _ (start : Start) (contents : List (Tag × List ℕ)) (channels channel :
         ap {B = ℕ} (λ b. cond b 1 0) (eq-eqb (page % channels) channel on) in
         omega (arith, more, own)
 
-    pub write_is_made : (content : Content) (slot : Slot) →
-        IsData start.base.shape.bytes (data_of contents tag) → has_host_room start.base past ≡ true →
+    pub write_is_made : (content : Content) (slot : Slot) → has_host_room start.base past ≡ true →
         IsMade start contents channels channel tag (Verb.Write page content) Reply.Ok past
         (after_write tag (page / channels) slot past)
-    write_is_made content slot has_data has_room =
+    write_is_made content slot has_room =
         let kind : Kind = Kind.Write (page / channels) slot in
         let are : steps_of tag (entry_of tag kind ∷ past) ≡ one_step tag kind past =
         one_step_more tag kind past [] no_steps in
         record {
           kinds = kind ∷ [];
           after_is = refl;
-          are_plain =
-              All-cons (IsPlainKind start.base.shape.bytes contents tag) kind [] has_data
-              (All-nil (IsPlainKind start.base.shape.bytes contents tag));
-          spares = λ at low. spared kind (λ at. refl) at;
-          closes = λ closed. closed;
+          uncollected = All-cons IsUncollected kind [] tt (All-nil IsUncollected);
           writes = one_more content slot;
           takes_none = refl;
-          no_fault = ap faults_in are;
-          are_steps =
-              subst (λ steps. AreStepsOf
-              (ladder_of (coding_of start.base) start contents) start.base channels channel
-              (Verb.Write page content) steps) (sym are)
-              (on_own (page % channels == channel)
-              (IsWrite (ladder_of (coding_of start.base) start contents) start.base (page / channels)
-              (one_step tag kind past)) (one_step tag kind past)
-              (eq-eqb (page % channels) channel on)
-              (is_written (ladder_of (coding_of start.base) start contents) start.base tag
-              (page / channels) slot past));
           is_reply = λ runs many is.
               on_run (λ run. write_reply (steps_on tag run) ≡ Some Reply.Ok) runs channels channel page
               (run_of start (entry_of tag kind ∷ past)) on many is
               (subst (λ steps. write_reply steps ≡ Some Reply.Ok) (sym are) refl);
-          last_write = λ runs many is. tt;
           hint = 0;
           serves = λ before is.
               on_channel (λ run. SerialWrite (ladder_in contents run) run.start.base tag
@@ -124,27 +81,13 @@ module _ (start : Start) (contents : List (Tag × List ℕ)) (channels channel :
         record {
           kinds = kind ∷ [];
           after_is = refl;
-          are_plain =
-              All-cons (IsPlainKind start.base.shape.bytes contents tag) kind [] tt
-              (All-nil (IsPlainKind start.base.shape.bytes contents tag));
-          spares = λ at low. spared kind (λ at. refl) at;
-          closes = λ closed. closed;
+          uncollected = All-cons IsUncollected kind [] tt (All-nil IsUncollected);
           writes = no_write tag kind past refl;
           takes_none = refl;
-          no_fault = ap faults_in are;
-          are_steps =
-              subst (λ steps. AreStepsOf
-              (ladder_of (coding_of start.base) start contents) start.base channels channel
-              (Verb.Trim page) steps) (sym are)
-              (on_own (page % channels == channel)
-              (IsTrue (is_one (is_trim_of (page / channels)) (one_step tag kind past)))
-              (one_step tag kind past)
-              (eq-eqb (page % channels) channel on) is_trim);
           is_reply = λ runs many is.
               on_run (λ run. single_reply (steps_on tag run) ≡ Some Reply.Ok) runs channels channel page
               (run_of start (entry_of tag kind ∷ past)) on many is
               (subst (λ steps. single_reply steps ≡ Some Reply.Ok) (sym are) refl);
-          last_write = λ runs many is. tt;
           hint = 0;
           serves = λ before is.
               on_channel (λ run. HasForm
@@ -164,27 +107,14 @@ module _ (start : Start) (contents : List (Tag × List ℕ)) (channels channel :
         record {
           kinds = kind ∷ [];
           after_is = refl;
-          are_plain =
-              All-cons (IsPlainKind start.base.shape.bytes contents tag) kind [] tt
-              (All-nil (IsPlainKind start.base.shape.bytes contents tag));
-          spares = λ at low. spared kind (λ at. refl) at;
-          closes = λ closed. closed;
+          uncollected = All-cons IsUncollected kind [] tt (All-nil IsUncollected);
           writes = no_write tag kind past refl;
           takes_none = refl;
-          no_fault = ap faults_in are;
-          are_steps =
-              subst (λ steps. AreStepsOf
-              (ladder_of (coding_of start.base) start contents) start.base channels channel
-              (Verb.Age named die sb amount) steps) (sym are)
-              (on_own (named == channel)
-              (IsTrue (is_one (is_age_of die sb amount) (one_step tag kind past)))
-              (one_step tag kind past) (eq-eqb named channel on) is_age);
           is_reply = λ runs many is.
               subst (λ option. IsSomeAnd option
               (λ run. single_reply (steps_on tag run) ≡ Some Reply.Ok))
               (sym (ap (slice_get runs) on ∙ is))
               (subst (λ steps. single_reply steps ≡ Some Reply.Ok) (sym are) refl);
-          last_write = λ runs many is. tt;
           hint = 0;
           serves = λ before is.
               on_channel (λ run. HasForm

@@ -1,25 +1,19 @@
 -- The senses of a look, which its call made one after the other: the entries that they are, and the call's steps. None decides
--- the reply of a read, and none opens or leaves a look.
+-- the reply of a read.
 use Rattle.std.proofs.Common.{ℕ, ◌≡◌, true, List, [], ◌∷◌, ◌++◌, ℤ, Option, None, refl, sym, ◌∙◌, append_assoc, append-nil}
 use Rattle.std.specs.Prelude.{All}
 use Rattle.std.specs.List.{list_all}
-use Rattle.std.specs.Option.{ForSome}
 use Rattle.std.proofs.lemmas.List.Elements.{All-cons}
-use Rattle.ssd_histories.specs.CallSteps.{CallStep, is_sense_of, position_of, steps_of}
-use Rattle.ssd_histories.specs.History.{look_made, open_looks}
-use Rattle.ssd_histories.specs.Lawful.{IsLawfulBy}
-use Rattle.ssd_geo.specs.Ladder.{LadderState}
+use Rattle.ssd_histories.specs.CallSteps.{CallStep, is_sense_of, steps_of}
 use Rattle.ssd_histories.specs.Replies.{first_reply}
 use Rattle.ssd_histories.specs.SerialCalls.{AreStepsFrom, entry_of}
-use Rattle.ssd_geo.specs.declared.base.ChannelBase.{ChannelBase}
 use Rattle.ssd_geo.specs.declared.entry.Entry.{Entry}
 use Rattle.ssd_geo.specs.declared.kind.Kind.{Kind}
-use Rattle.ssd_geo.specs.declared.look.Look.{Look}
 use Rattle.ssd_geo.specs.declared.place.Place.{Place}
 use Rattle.ssd_geo.specs.declared.tag.Tag.{Tag}
 use Rattle.ssd_formats.proofs.TextLaws.{same_byte}
 use Rattle.ssd_histories.specs.ServedCalls.{after_senses}
-use Rattle.run_laws.proofs.GrownPasts.{faults_in, grown, one_step_more}
+use Rattle.run_laws.proofs.MadeCalls.{grown, one_step_more}
 
 -- the kinds of some senses, the newest first, before older ones
 abbrev pub sense_kinds : ℕ → List (Place × ℤ) → List Kind → List Kind
@@ -60,31 +54,12 @@ module _ (tag : Tag) (at : ℕ) where
       (one_step_more tag kind past steps are)
       ∙ append_assoc steps (step ∷ []) (sense_steps tag at more (entry_of tag kind ∷ past))
 
-  -- each step is a sense, none is a failed call, and none makes a look
+  -- each step is a sense
   pub all_senses : (senses : List (Place × ℤ)) (past : List Entry) →
       list_all (λ step. is_sense_of at step.entry.kind) (sense_steps tag at senses past) ≡ true
   all_senses [] past = refl
   all_senses (sensed ∷ more) past =
       rw (same_byte at) (all_senses more (entry_of tag (Kind.Sense at sensed.0 sensed.1) ∷ past))
-
-  pub no_fault_with : (senses : List (Place × ℤ)) (past : List Entry) (steps : List CallStep) →
-      faults_in (sense_steps tag at senses past ++ steps) ≡ faults_in steps
-  no_fault_with [] past steps = refl
-  no_fault_with (sensed ∷ more) past steps =
-      no_fault_with more (entry_of tag (Kind.Sense at sensed.0 sensed.1) ∷ past) steps
-
-  pub no_look_with : (P : CallStep → Look → Type 0) (senses : List (Place × ℤ)) (past : List Entry)
-      (steps : List CallStep) →
-      All (λ step. ForSome (look_made (position_of step) step.entry.kind) (P step)) steps → All
-      (λ step. ForSome (look_made (position_of step) step.entry.kind) (P step))
-      (sense_steps tag at senses past ++ steps)
-  no_look_with P [] past steps all = all
-  no_look_with P (sensed ∷ more) past steps all =
-      let kind : Kind = Kind.Sense at sensed.0 sensed.1 in
-      let step : CallStep = record { past = past; entry = entry_of tag kind } in
-      All-cons (λ step. ForSome (look_made (position_of step) step.entry.kind) (P step)) step
-      (sense_steps tag at more (entry_of tag kind ∷ past) ++ steps)
-      (λ look is. absurd (cc)) (no_look_with P more (entry_of tag kind ∷ past) steps all)
 
   -- the first step that decides a reply stands behind them
   pub decided_behind : {R : Type 0} (decided : CallStep → Option R) (senses : List (Place × ℤ))
@@ -108,17 +83,3 @@ module _ (tag : Tag) (at : ℕ) where
     senses_lead more
         (entry_of tag (Kind.Sense at sensed.0 sensed.1) ∷ past) steps after lead,
   )
-
-  -- the looks stay as they are, and the past before lawful ones was lawful
-  pub looks_stay : (senses : List (Place × ℤ)) (past : List Entry) →
-      open_looks (after_senses tag at senses past) ≡ open_looks past
-  looks_stay [] past = refl
-  looks_stay (sensed ∷ more) past =
-      looks_stay more (entry_of tag (Kind.Sense at sensed.0 sensed.1) ∷ past)
-
-  pub lawful_before : (ladder : List Entry → ℕ → LadderState) (base : ChannelBase)
-      (senses : List (Place × ℤ)) (past : List Entry) →
-      IsLawfulBy ladder base (after_senses tag at senses past) → IsLawfulBy ladder base past
-  lawful_before ladder base [] past lawful = lawful
-  lawful_before ladder base (sensed ∷ more) past lawful =
-      (lawful_before ladder base more (entry_of tag (Kind.Sense at sensed.0 sensed.1) ∷ past) lawful).0

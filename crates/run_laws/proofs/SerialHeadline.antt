@@ -2,8 +2,7 @@
 -- read gives the last write, whatever the verbs.
 use Rattle.std.proofs.Common.{ℕ, ◌≡◌, true, List, [], ◌∷◌, ◌++◌, length, sym, ap, subst, append_assoc}
 use Rattle.std.specs.Prelude.{All, is_some}
-use Rattle.std.specs.List.{list_all}
-use Rattle.std.proofs.lemmas.List.Elements.{All-cons, All-head, All-nil, All-tail, All-weaker}
+use Rattle.std.proofs.lemmas.List.Elements.{All-cons, All-head, All-nil, All-tail}
 use Rattle.std.proofs.lemmas.List.Sums.{list_all-from_AllPass}
 use Rattle.recovery_laws.proofs.AnsweredReads.{calls_give_last_writes}
 use Rattle.recovery_laws.proofs.StartPages.{starts_have_named_pages}
@@ -24,7 +23,7 @@ use Rattle.ssd_histories.specs.Start.{Start}
 use Rattle.run_laws.specs.Headline.{Headline}
 use Rattle.run_laws.specs.Runs.{Run, channels_of, data_in, runs_with}
 use Rattle.run_laws.specs.SerialRuns.{ChannelsHold, HasCalls, HasData, SerialRunsHold, SerialStopsHold, state_of}
-use Rattle.run_laws.proofs.NumberedCalls.{tags_give_data}
+use Rattle.run_laws.proofs.TaggedData.{tags_give_data}
 
 -- the contents of a trace give each write its data
 own_contents : (actors count : ℕ) (done rest : List TraceCall) (tag : Tag) (verb : Verb) →

@@ -15,17 +15,15 @@ use Rattle.serial_laws.proofs.UnbegunCalls.{looks_are_left}
 use Rattle.ssd_geo.specs.declared.reply.Reply.{Reply}
 use Rattle.ssd_geo.specs.declared.tag.Tag.{Tag}
 use Rattle.ssd_geo.specs.declared.trace.TraceCall.{TraceCall}
-use Rattle.ssd_formats.specs.ImageHead.{Head}
 use Rattle.ssd_formats.specs.TraceText.{is_of_actor}
-use Rattle.ssd_histories.specs.CallsInOrder.{AreNumberedAfter, AreReplies, ChannelRun, IsNotMade, IsNumberedAfter, IsReplyOf, is_left, is_of_call, reply_to}
+use Rattle.ssd_histories.specs.CallsInOrder.{AreNumberedAfter, AreReplies, ChannelRun, IsNotMade, IsNumberedAfter, IsReplyOf, is_left, reply_to}
 use Rattle.ssd_histories.specs.Lawful.{IsLawful}
 use Rattle.ssd_histories.specs.SerialHistory.{AreServed, SerialCall, SerialState, first_state, none_left, serves}
 use Rattle.ssd_histories.specs.SerialStop.{IsSerialStop, SerialCut}
-use Rattle.ssd_histories.specs.Standing.{IsPastOf}
 use Rattle.ssd_histories.specs.Start.{Start}
 use Rattle.run_laws.specs.Headline.{IsStoppedRun}
-use Rattle.run_laws.specs.Runs.{Run, channels_of, data_in}
-use Rattle.run_laws.specs.SerialRuns.{ChannelsHold, HasCalls, HasServed, IsHeadlineOfStop, ServedFrontsStop, ServesNext, ServesOneMore, ServingBegins, state_of, with_reply}
+use Rattle.run_laws.specs.Runs.{data_in}
+use Rattle.run_laws.specs.SerialRuns.{HasServed, ServedFrontsStop, ServesNext, ServesOneMore, ServingBegins, state_of, with_reply}
 use Rattle.run_laws.proofs.AddedReplies.{new_reply_there, reply_there, still_counted}
 use Rattle.run_laws.proofs.SerialHeadline.{all_answered, serial_stops_hold}
 

@@ -33,8 +33,8 @@ use Rattle.ssd_histories.specs.SerialCalls.{entry_of}
 use Rattle.ssd_histories.specs.ServedCalls.{HasFoundNone, HasReadPage, IsServedBy, after_look, after_senses, after_sensing}
 use Rattle.ssd_histories.specs.Standing.{IsStart}
 use Rattle.ssd_histories.specs.Start.{Start}
-use Rattle.run_laws.specs.ServedPasts.{IsPlainPast}
 use Rattle.run_laws.specs.StoppedRuns.{has_first_room}
+use Rattle.run_laws.specs.Serials.{HasSmallSerials}
 use Rattle.run_laws.proofs.LookSenses.{none_sensed}
 use Rattle.run_laws.proofs.SpelledPasts.{IsSmallTag, age_spelled, leave_spelled, look_spelled, sense_spelled, trim_spelled, write_spelled}
 
@@ -139,7 +139,7 @@ module _ (start : Start) (contents : List (Tag × List ℕ)) (is_start : IsStart
         (sense_spelled start is_start contents past spelled (omega (arith, short)) tag small at one.0 one.1 here.1)
         (omega (arith, short)) lawful
 
-    module _ (before after : List Entry) (plain : IsPlainPast start contents before) (lawful : IsLawfulPast after)
+    module _ (before after : List Entry) (serials : HasSmallSerials start.base) (lawful : IsLawfulPast after)
         (spelled : list_all is_spelled_entry before ≡ true) where
       abbrev pub Keeps : List Entry → Type 0
       Keeps past = (list_all is_spelled_entry past ≡ true) × (length past ≤ start.limit)
@@ -161,7 +161,7 @@ module _ (start : Start) (contents : List (Tag × List ℕ)) (is_start : IsStart
           let fits = look_fits room in
           let here = subst IsLawfulPast found.after_is lawful in
           subst Keeps (sym found.after_is) (
-            look_spelled start is_start contents before spelled (short_of 256 fits) tag small plain row found.found false here.1,
+            look_spelled start is_start contents before spelled (short_of 256 fits) tag small serials row found.found false here.1,
             one_fits (entry_of tag (Kind.Look row found.found false)) (omega (arith, fits)),
           )
 
@@ -180,7 +180,7 @@ module _ (start : Start) (contents : List (Tag × List ℕ)) (is_start : IsStart
           let counted : length found.senses ≤ bound = omega (arith, few, long_none) in
           let low = bound_low in
           let long = after_long tag (length before) found.senses (after_look tag row found.slot found.serial found.closed before) in
-          let look = look_spelled start is_start contents before spelled (short_of 256 fits) tag small plain row (Row.Page found.slot found.serial) found.closed first.1 in
+          let look = look_spelled start is_start contents before spelled (short_of 256 fits) tag small serials row (Row.Page found.slot found.serial) found.closed first.1 in
           let senses = senses_spelled (length before) found.senses (after_look tag row found.slot found.serial found.closed before) look
           (omega (arith, fits, high, counted, low)) here.0 in
           subst Keeps (sym found.after_is) (

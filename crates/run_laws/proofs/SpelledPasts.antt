@@ -1,7 +1,7 @@
 -- What a channel's lawful past holds, each entry's numbers in the fields of its line: what an entry names is the channel's, a
 -- serial is that of a write's call, and a look began before what names it.
 use Rattle.std.proofs.Common.{ℕ, ◌≡◌, ◌-◌, ◌*◌, ◌^◌, ◌<◌, ◌≤◌, ◌==◌, ◌&&◌, nat_le, nat_lt, Bool, true, false, not, List, [], ◌∷◌, length, ℤ, Option, Some, None, refl, sym, ap, subst, arith, lt-ltb, ltb-true}
-use Rattle.std.specs.Prelude.{IsSomeAnd, ⊤}
+use Rattle.std.specs.Prelude.{IsSomeAnd, option_map, ⊤}
 use Rattle.std.proofs.lemmas.Bool.Decides.{nat_tests}
 use Rattle.std.specs.List.{list_all}
 use Rattle.std.proofs.Math.Nat.{mul-le-mul}
@@ -13,6 +13,7 @@ use Rattle.ssd_geo.specs.Coding.{coding_of}
 use Rattle.ssd_geo.specs.Ladder.{LadderState, asks}
 use Rattle.ssd_geo.specs.Limits.{is_within}
 use Rattle.ssd_geo.specs.Superblock.{slots_of}
+use Rattle.ssd_geo.specs.declared.base.ChannelBase.{ChannelBase}
 use Rattle.ssd_geo.specs.declared.entry.Entry.{Entry}
 use Rattle.ssd_geo.specs.declared.kind.Kind.{Kind}
 use Rattle.ssd_geo.specs.declared.look.Look.{Look}
@@ -21,7 +22,7 @@ use Rattle.ssd_geo.specs.declared.row.Row.{Row}
 use Rattle.ssd_geo.specs.declared.shape.Shape.{Shape}
 use Rattle.ssd_geo.specs.declared.slot.Slot.{Slot}
 use Rattle.ssd_geo.specs.declared.tag.Tag.{Tag}
-use Rattle.ssd_histories.specs.History.{look_of, open_look, open_looks}
+use Rattle.ssd_histories.specs.History.{look_made, look_of, open_look, open_looks}
 use Rattle.ssd_histories.specs.Lawful.{IsLawfulEntry, IsLawfulLeave, IsLawfulSense, is_closed_page}
 use Rattle.ssd_histories.specs.PastPages.{ladder_of, senses_of}
 use Rattle.ssd_histories.specs.PastRows.{row_after, row_change, row_of, serial_of}
@@ -29,8 +30,7 @@ use Rattle.ssd_histories.specs.Ranges.{has_place, has_row, has_slot}
 use Rattle.ssd_histories.specs.SerialCalls.{entry_of}
 use Rattle.ssd_histories.specs.Standing.{IsStart}
 use Rattle.ssd_histories.specs.Start.{Start}
-use Rattle.run_laws.specs.ServedPasts.{IsPlainKind, IsPlainPast}
-use Rattle.run_laws.proofs.BlankRows.{blank_row, newest_is_plain, past_is_plain}
+use Rattle.run_laws.specs.Serials.{HasSmallSerial, HasSmallSerials}
 use Rattle.run_laws.proofs.LookSenses.{found_below, open_looks_began}
 use Rattle.run_laws.proofs.SpelledLadders.{AsksShort, ladder_asks_short}
 
@@ -58,11 +58,10 @@ parts_of false b c e = absurd (cc)
 low : (a b c : ℕ) → nat_lt a b ≡ true → b ≤ c → nat_lt a c ≡ true
 low a b c e le = let less : a < b = ltb-true a b e in lt-ltb a c (omega (arith, less, le))
 
--- a row that names a page has a serial of 64 bits
-abbrev HasSmallSerial : Row → Type 0
-HasSmallSerial (Row.Page slot serial) = serial < 2 ^ 64
-HasSmallSerial Row.Empty = ⊤
-HasSmallSerial Row.Lost = ⊤
+-- a look that found a page has a serial of 64 bits
+abbrev HasSmallLook : Option Look → Type 0
+HasSmallLook None = ⊤
+HasSmallLook (Some look) = look.serial < 2 ^ 64
 
 -- the numbers of a tag fit their fields
 pub record IsSmallTag (tag : Tag) : Type 0 where
@@ -125,46 +124,62 @@ module _ (start : Start) (is_start : IsStart start) where
   session_low : start.base.session < 2 ^ 24
   session_low = is_start.fields.session
 
-  -- the pages of rows have such serials: those of writes
+  changed : (b : Bool) (after before : Row) → HasSmallSerial after → HasSmallSerial before →
+      HasSmallSerial (elim b [ true ↦ after | false ↦ before ])
+  changed true after before is_after is_before = is_after
+  changed false after before is_after is_before = is_before
+
+  -- so has a look that found a page, where its entry is spelled
+  look_made_small : (at : ℕ) (kind : Kind) → is_spelled_kind kind ≡ true → HasSmallLook (look_made at kind)
+  look_made_small at (Kind.Look row (Row.Page slot serial) closed) e =
+      let parts = parts_of (nat_lt row (2 ^ 32)) (is_spelled_row (Row.Page slot serial)) true e in
+      ltb-true serial (2 ^ 64) (and_parts (is_spelled_slot slot) (nat_lt serial (2 ^ 64)) parts.second).1
+  look_made_small at kind e = tt
+
+  look_small : (past : List Entry) (at : ℕ) → list_all is_spelled_entry past ≡ true → HasSmallLook (look_of past at)
+  look_small [] at spelled = tt
+  look_small (entry ∷ past) at spelled =
+      let parts = and_parts (is_spelled_entry entry) (list_all is_spelled_entry past) spelled in
+      let own = parts_of (nat_lt entry.tag.actor (2 ^ 8)) (nat_lt entry.tag.call (2 ^ 32)) (is_spelled_kind entry.kind) parts.0 in
+      by_test (length past == at) (look_made_small at entry.kind own.third) (look_small past at parts.1)
+    where
+      by_test : (b : Bool) → HasSmallLook (look_made at entry.kind) → HasSmallLook (look_of past at) →
+          HasSmallLook (elim b [ true ↦ look_made at entry.kind | false ↦ look_of past at ])
+      by_test true here before = here
+      by_test false here before = before
+
+  -- the pages of rows have such serials: those of the start, of writes, and of looks
+  serial_step : (past : List Entry) → list_all is_spelled_entry past ≡ true → (tag : Tag) (kind : Kind) → IsSmallTag tag →
+      (row : ℕ) (before : Row) → HasSmallSerial before →
+      HasSmallSerial (row_after (row_change start.base.session past tag kind) row before)
+  serial_step past spelled tag (Kind.Write named slot) small row before held =
+      changed (named == row) (Row.Page slot (serial_of start.base.session tag)) before
+      (serials_name_their_calls start.base.session tag.actor tag.call session_low small.actor small.call).fits held
+  serial_step past spelled tag (Kind.Trim named) small row before held = changed (named == row) Row.Empty before tt held
+  serial_step past spelled tag (Kind.Move at slot) small row before held =
+      by_look (look_of past at) (look_small past at spelled)
+    where
+      by_look : (look : Option Look) → HasSmallLook look →
+          HasSmallSerial (row_after (option_map (λ looked. (looked.row, Row.Page slot looked.serial)) look) row before)
+      by_look None fine = held
+      by_look (Some look) fine = changed (look.row == row) (Row.Page slot look.serial) before fine held
+  serial_step past spelled tag (Kind.Condemn at) small row before held = by_look (look_of past at)
+    where
+      by_look : (look : Option Look) →
+          HasSmallSerial (row_after (option_map (λ looked. (looked.row, Row.Lost)) look) row before)
+      by_look None = held
+      by_look (Some look) = changed (look.row == row) Row.Lost before tt held
+  serial_step past spelled tag kind small row before held = held
+
+  row_serial : HasSmallSerials start.base → (past : List Entry) → list_all is_spelled_entry past ≡ true → (row : ℕ) →
+      HasSmallSerial (row_of start.base past row)
+  row_serial serials [] spelled row = serials row
+  row_serial serials (entry ∷ past) spelled row =
+      let parts = and_parts (is_spelled_entry entry) (list_all is_spelled_entry past) spelled in
+      serial_step past parts.1 entry.tag entry.kind (tag_of entry parts.0) row (row_of start.base past row)
+      (row_serial serials past parts.1 row)
+
   module _ (contents : List (Tag × List ℕ)) where
-    changed : (b : Bool) (after before : Row) → HasSmallSerial after → HasSmallSerial before →
-        HasSmallSerial (elim b [ true ↦ after | false ↦ before ])
-    changed true after before is_after is_before = is_after
-    changed false after before is_after is_before = is_before
-
-    serial_step : (past : List Entry) (tag : Tag) (kind : Kind) → IsPlainKind start.base.shape.bytes contents tag kind → IsSmallTag tag →
-        (row : ℕ) (before : Row) → HasSmallSerial before →
-        HasSmallSerial (row_after (row_change start.base.session past tag kind) row before)
-    serial_step past tag (Kind.Write named slot) plain small row before held =
-        changed (named == row) (Row.Page slot (serial_of start.base.session tag)) before
-        (serials_name_their_calls start.base.session tag.actor tag.call session_low small.actor small.call).fits held
-    serial_step past tag (Kind.Trim named) plain small row before held = changed (named == row) Row.Empty before tt held
-    serial_step past tag (Kind.Look named found closed) plain small row before held = held
-    serial_step past tag (Kind.Sense at place level) plain small row before held = held
-    serial_step past tag (Kind.Leave at) plain small row before held = held
-    serial_step past tag (Kind.Age die sb amount) plain small row before held = held
-    serial_step past tag (Kind.Move at slot) plain small row before held = absurd plain
-    serial_step past tag (Kind.Changed at found) plain small row before held = absurd plain
-    serial_step past tag (Kind.Condemn at) plain small row before held = absurd plain
-    serial_step past tag (Kind.Stay at worn) plain small row before held = absurd plain
-    serial_step past tag (Kind.Pick sb) plain small row before held = absurd plain
-    serial_step past tag (Kind.Erase sb) plain small row before held = absurd plain
-    serial_step past tag (Kind.BadWrite named slot die fault) plain small row before held = absurd plain
-    serial_step past tag (Kind.BadCopy at slot die fault) plain small row before held = absurd plain
-    serial_step past tag (Kind.BadErase sb die fault) plain small row before held = absurd plain
-    serial_step past tag (Kind.Refused named worn) plain small row before held = absurd plain
-    serial_step past tag (Kind.FaultSense at place level) plain small row before held = absurd plain
-    serial_step past tag (Kind.FaultAge die sb amount) plain small row before held = absurd plain
-    serial_step past tag (Kind.Note free victim live pins garbage) plain small row before held = absurd plain
-
-    row_serial : (past : List Entry) → IsPlainPast start contents past → list_all is_spelled_entry past ≡ true → (row : ℕ) →
-        HasSmallSerial (row_of start.base past row)
-    row_serial [] plain spelled row = subst HasSmallSerial (sym (blank_row start row plain.is_plain_start)) tt
-    row_serial (entry ∷ past) plain spelled row =
-        let parts = and_parts (is_spelled_entry entry) (list_all is_spelled_entry past) spelled in
-        serial_step past entry.tag entry.kind (newest_is_plain start contents entry past plain) (tag_of entry parts.0) row
-        (row_of start.base past row) (row_serial past (past_is_plain start contents entry past plain) parts.1 row)
-
     -- an entry of a call whose tag is small
     module _ (past : List Entry) (spelled : list_all is_spelled_entry past ≡ true)
         (short : length past < 2 ^ 32) (tag : Tag) (small : IsSmallTag tag) where
@@ -202,13 +217,13 @@ module _ (start : Start) (is_start : IsStart start) where
       closed_spelled Row.Lost closed is = ap not is
       closed_spelled (Row.Page slot serial) closed is = refl
 
-      pub look_spelled : IsPlainPast start contents past → (row : ℕ) (found : Row) (closed : Bool) → IsLawfulHere (Kind.Look row found closed) →
+      pub look_spelled : HasSmallSerials start.base → (row : ℕ) (found : Row) (closed : Bool) → IsLawfulHere (Kind.Look row found closed) →
           list_all is_spelled_entry (entry_of tag (Kind.Look row found closed) ∷ past) ≡ true
-      look_spelled plain row found closed lawful =
+      look_spelled serials row found closed lawful =
           let parts = and_parts (nat_lt row shape.rows) (has_row shape found) lawful.in_range in
           one (Kind.Look row found closed)
           (three (nat_lt row (2 ^ 32)) (is_spelled_row found) (is_closed_of_page found closed) (low row shape.rows (2 ^ 32) parts.0 few_rows)
-          (row_spelled found parts.1 (subst HasSmallSerial (sym lawful.meets.is_found) (row_serial past plain spelled row)))
+          (row_spelled found parts.1 (subst HasSmallSerial (sym lawful.meets.is_found) (row_serial serials past spelled row)))
           (closed_spelled found closed lawful.meets.is_said))
 
       -- the look that an entry names began before it

@@ -1,33 +1,49 @@
--- A run that stopped before the first step of a call, since its channel's history had no room for it: with one
--- entry more the call would be whole, and what holds of a run holds of the calls before it.
-use Rattle.std.proofs.Common.{ℕ, zero, suc, ◌≡◌, ◌≤◌, ◌-◌, ◌/◌, ◌%◌, false, List, [], ◌∷◌, length, None, Some, refl, sym, ap, subst, inl, arith}
-use Rattle.std.specs.Prelude.{All, IsTrue, slice_get, slice_set, slice_index_or}
-use Rattle.std.proofs.lemmas.List.Elements.{All-head, All-tail, All-weaker}
+-- A call that stops before its first step, since its channel's history has no room for it, was cut: with one entry more it would
+-- be whole.
+use Rattle.std.proofs.Common.{true, ℕ, zero, suc, ◌≡◌, ◌/◌, ◌%◌, false, List, [], ◌∷◌, length, Some, refl, sym, ap, subst, inl, arith}
+use Rattle.std.specs.Prelude.{IsTrue, slice_get, slice_set}
 use Rattle.ssd_histories.specs.CallSteps.{CallStep}
-use Rattle.ssd_histories.specs.CallsInOrder.{ChannelRun, IsNotMade, is_age_of, is_trim_of, ladder_in, reply_to}
+use Rattle.ssd_histories.specs.CallsInOrder.{ChannelRun, is_age_of, is_trim_of, ladder_in}
 use Rattle.ssd_histories.specs.Copies.{IsRead}
 use Rattle.ssd_histories.specs.HistoryRoom.{has_room_for}
-use Rattle.ssd_formats.specs.Input.{Input}
 use Rattle.ssd_histories.specs.Rounds.{is_one}
 use Rattle.ssd_histories.specs.SerialCalls.{SerialWrite, entry_of, writes}
-use Rattle.ssd_histories.specs.SerialHistory.{HasForm, SerialState, most_hints, with_past}
-use Rattle.ssd_histories.specs.SerialStop.{IsCut, IsCutOn, IsSerialStop, SerialCut}
+use Rattle.ssd_histories.specs.SerialHistory.{HasForm, SerialState, with_past}
+use Rattle.ssd_histories.specs.SerialStop.{IsCut, IsCutOn, SerialCut}
 use Rattle.ssd_histories.specs.Start.{Start}
 use Rattle.ssd_geo.specs.declared.entry.Entry.{Entry}
 use Rattle.ssd_geo.specs.declared.kind.Kind.{Kind}
-use Rattle.ssd_geo.specs.declared.reply.Reply.{Reply}
 use Rattle.ssd_geo.specs.declared.tag.Tag.{Tag}
-use Rattle.ssd_geo.specs.declared.trace.TraceCall.{TraceCall}
 use Rattle.ssd_geo.specs.declared.trace.Verb.{Verb}
-use Rattle.run_laws.specs.Runs.{FaultCounts, runs_with}
-use Rattle.run_laws.specs.ServedRuns.{ChannelsHold, IsServedRun, channel_of, contents_in, hints_in, run_of_input}
-use Rattle.run_laws.specs.StoppedRuns.{HoldsOfStop, IsPlainVerb, ServedRunsStop, StopsAt, WouldFindRoom, has_first_room}
+use Rattle.ssd_formats.proofs.TextLaws.{same_byte}
+use Rattle.ssd_histories.specs.Copies.{is_lone_look}
+use Rattle.ssd_geo.specs.declared.row.Row.{Row}
+use Rattle.run_laws.specs.Runs.{runs_with}
+use Rattle.run_laws.specs.ServedRuns.{channel_of}
+use Rattle.run_laws.specs.StoppedRuns.{FirstStepsAreCut, IsPlainVerb, WouldFindRoom, has_first_room}
 use Rattle.run_laws.proofs.ChangedRuns.{run_at}
-use Rattle.run_laws.proofs.MadeCalls.{on_channel, one_step, same_Some}
-use Rattle.run_laws.proofs.NumberedCalls.{counts_in}
-use Rattle.run_laws.proofs.RunHeadline.{HasServed, are_lawful, are_replies, enough_calls, has_no_reply, headline, isnt_made, kinds_are_calls, later, state}
-use Rattle.run_laws.proofs.UnservedCalls.{IsLater, ages_alone, all_back, looks_alone, trims_alone, whole_kind}
-use Rattle.run_laws.proofs.WholeCalls.{run_of}
+use Rattle.run_laws.proofs.MadeCalls.{on_channel, one_step, run_of, same_Some}
+
+-- an entry that makes a call of a verb whole, where the call has no other
+abbrev whole_kind : ℕ → Verb → Kind
+whole_kind channels (Verb.Write page content) =
+    Kind.Write (page / channels) (record { sb = 0; index = 0 })
+whole_kind channels (Verb.Read page) = Kind.Look (page / channels) Row.Empty false
+whole_kind channels (Verb.Trim page) = Kind.Trim (page / channels)
+whole_kind channels (Verb.Age channel die sb amount) = Kind.Age die sb amount
+whole_kind channels verb = Kind.Leave 0
+
+looks_alone : (tag : Tag) (row : ℕ) (past : List Entry) →
+    is_lone_look row (one_step tag (Kind.Look row Row.Empty false) past) ≡ true
+looks_alone tag row past = same_byte row
+
+trims_alone : (tag : Tag) (row : ℕ) (past : List Entry) →
+    is_one (is_trim_of row) (one_step tag (Kind.Trim row) past) ≡ true
+trims_alone tag row past = same_byte row
+
+ages_alone : (tag : Tag) (die sb amount : ℕ) (past : List Entry) →
+    is_one (is_age_of die sb amount) (one_step tag (Kind.Age die sb amount) past) ≡ true
+ages_alone tag die sb amount past = rw (same_byte die, same_byte sb, same_byte amount) refl
 
 -- a list whose item at a place is set to itself is the same
 set_itself : {X : Type 0} (xs : List X) (k : ℕ) (x : X) → slice_get xs k ≡ Some x → slice_set xs k x ≡ xs
@@ -96,80 +112,15 @@ module _ (start : Start) (contents : List (Tag × List ℕ)) (channels channel e
   is_cut_first (Verb.Collect named) plain on room full = absurd plain
   is_cut_first (Verb.Drain count) plain on room full = absurd plain
 
-module _ (input : Input) (starts : List Start) (done : List TraceCall) (replies : List (List Reply))
-    (pasts : List (List Entry)) (faults : List FaultCounts) (call : TraceCall) (channel entries : ℕ)
-    (served : IsServedRun input starts done replies pasts)
-    (stops : StopsAt input starts done pasts call channel entries)
-    (hold : ChannelsHold input starts pasts faults) where
-  abbrev runs : List ChannelRun
-  runs = runs_with starts pasts
-
-  plain_later : All (λ other. IsPlainVerb other.verb) (call ∷ stops.rest)
-  plain_later =
-      all_back (λ (other : TraceCall). IsPlainVerb other.verb) done (call ∷ stops.rest)
-      (subst (λ calls. All (λ other. IsPlainVerb other.verb) calls) stops.are_calls
-      stops.plain_verbs)
-
-  abbrev so_far : HasServed input starts done (call ∷ stops.rest) replies pasts
-  so_far = record { served = served; are_calls = stops.are_calls; plain_verbs = plain_later }
-
-  is_run : slice_get runs channel ≡ Some (run_of stops.start stops.past)
-  is_run = run_at starts pasts channel stops.start stops.past stops.has_start stops.has_past
-
-  -- the call's channel has the past that it had
-  unchanged : with_past channel stops.past (run_of stops.start stops.past) (state so_far)
-      ≡ state so_far
-  unchanged =
-      ap {B = SerialState} (λ (held : List ChannelRun). record {
-        channels = held;
-        hints = served.hints;
-        dropped = hints_in replies - most_hints;
-      }) (set_itself runs channel (run_of stops.start stops.past) is_run)
-
-  is_cut : SerialCut (contents_in input) (length starts) channel entries call.tag call.verb
-      (state so_far) (state so_far)
-  is_cut =
-      subst
-      (SerialCut (contents_in input) (length starts) channel entries call.tag call.verb
-      (state so_far))
-      unchanged
-      (is_cut_first stops.start (contents_in input) (length starts) channel entries call.tag
-      stops.past (state so_far) is_run stops.has_length call.verb
-      (All-head (λ (other : TraceCall). IsPlainVerb other.verb) call stops.rest plain_later)
-      stops.is_channel stops.finds_room stops.no_room)
-
-  is_stop : IsSerialStop (contents_in input) starts input.calls.calls replies channel entries
-      (state so_far)
-  is_stop = record {
-    served = done;
-    call = call;
-    rest = stops.rest;
-    before = state so_far;
-    are_calls = stops.are_calls;
-    are_served = served.are_served;
-    is_cut = is_cut;
-    no_replies =
-        All-weaker (IsLater (counts_in done) input.calls.actors)
-        (λ (other : TraceCall). reply_to replies other.tag ≡ None) (has_no_reply so_far)
-        (call ∷ stops.rest) (later so_far);
-    not_begun =
-        All-tail (IsNotMade runs) call stops.rest
-        (All-weaker (IsLater (counts_in done) input.calls.actors) (IsNotMade runs)
-        (isnt_made so_far) (call ∷ stops.rest) (later so_far));
-    are_lawful = are_lawful so_far;
-    are_replies = are_replies so_far;
-  }
-
-  holds_of_stop : HoldsOfStop input (run_of_input input starts replies pasts faults) channel entries
-  holds_of_stop = record {
-    headline = headline so_far faults hold;
-    is_stopped = record { hints = served.hints; is_stop = is_stop };
-    few_replies = λ actor below.
-        subst (λ (n : ℕ). length (slice_index_or replies actor []) ≤ n)
-        (sym (kinds_are_calls input.calls.calls actor)) (enough_calls so_far actor below);
-    none_taken = served.none_taken;
-  }
-
-pub served_runs_stop : ServedRunsStop
-served_runs_stop input starts done replies pasts faults call channel entries served stops hold =
-    holds_of_stop input starts done replies pasts faults call channel entries served stops hold
+-- the channel of the call has the past that it had
+pub first_steps_are_cut : FirstStepsAreCut
+first_steps_are_cut contents starts pasts hints dropped call channel entries stops =
+    let state : SerialState = record { channels = runs_with starts pasts; hints = hints; dropped = dropped } in
+    let is_run : slice_get (runs_with starts pasts) channel ≡ Some (run_of stops.start stops.past) =
+    run_at starts pasts channel stops.start stops.past stops.has_start stops.has_past in
+    let unchanged : with_past channel stops.past (run_of stops.start stops.past) state ≡ state =
+    ap {B = SerialState} (λ (held : List ChannelRun). record { channels = held; hints = hints; dropped = dropped })
+    (set_itself (runs_with starts pasts) channel (run_of stops.start stops.past) is_run) in
+    subst (SerialCut contents (length starts) channel entries call.tag call.verb state) unchanged
+    (is_cut_first stops.start contents (length starts) channel entries call.tag stops.past state is_run stops.has_length call.verb
+    stops.is_plain stops.is_channel stops.finds_room stops.no_room)

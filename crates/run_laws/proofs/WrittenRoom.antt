@@ -1,8 +1,8 @@
 -- The slots left after a past without copies, erases and failures: one less for each write.
-use Rattle.std.proofs.Common.{◌≡◌, ℕ, ◌+◌, ◌*◌, ◌<◌, ◌≤◌, ◌==◌, ◌||◌, Bool, true, false, List, [], ◌∷◌, length, refl, ap, sym, subst, ◌∙◌, arith}
+use Rattle.std.proofs.Common.{◌≡◌, ℕ, ◌+◌, ◌*◌, ◌<◌, ◌==◌, ◌||◌, Bool, true, false, List, [], ◌∷◌, length, refl, ap, sym, subst, ◌∙◌, arith}
 use Rattle.std.specs.Prelude.{if◌then◌else◌, not}
 use Rattle.std.specs.List.{list_all}
-use Rattle.std.proofs.lemmas.Bool.{and_parts, ltb-true}
+use Rattle.std.proofs.lemmas.Bool.{and_parts}
 use Rattle.std.proofs.lemmas.List.{ext_get_or}
 use Rattle.std.proofs.lemmas.List.Elements.{All-head, All-tail}
 use Rattle.std.proofs.lemmas.List.FromFn.{length-map-range_with_len}
@@ -11,10 +11,9 @@ use Rattle.ssd_histories.specs.BlockLaws.{blocks_after}
 use Rattle.ssd_histories.specs.Blocks as Blocks
 use Rattle.ssd_geo.specs.Coding.{coding_of}
 use Rattle.ssd_geo.specs.Ladder.{LadderState}
-use Rattle.ssd_histories.specs.Lawful.{IsLawfulKind}
+use Rattle.ssd_histories.specs.Lawful.{IsLawful, IsLawfulKind}
 use Rattle.ssd_histories.specs.PastBlocks.{block_before, block_of, blocks_of, erases_of, slots_in, state_by}
 use Rattle.ssd_histories.specs.PastPages.{ladder_of}
-use Rattle.ssd_histories.specs.Room.{has_host_room}
 use Rattle.ssd_histories.specs.Start.{Start}
 use Rattle.ssd_histories.specs.States.{is_bad, is_free, is_victim}
 use Rattle.ssd_geo.specs.declared.base.BlockBase.{BlockBase}
@@ -27,8 +26,7 @@ use Rattle.ssd_geo.specs.declared.tag.Tag.{Tag}
 use Rattle.ssd_histories.proofs.BlockSteps.{blocks_after_entry}
 use Rattle.ssd_histories.proofs.PinnedWords.{slot_block}
 use Rattle.ssd_histories.proofs.UsedSlots.{block_is}
-use Rattle.run_laws.specs.ServedPasts.{IsPlainKind, IsPlainPast}
-use Rattle.run_laws.specs.WrittenRoom.{HasBlankBlocks, PlainPastsHaveRoom, good_in, is_write, pages_that_fit, writes_in}
+use Rattle.run_laws.specs.WrittenRoom.{IsUncollected, IsUncollectedPast, UncollectedPastsHaveRoom, HasBlankBlocks, good_in, is_write, writes_in}
 use Rattle.run_laws.proofs.RoomLeft.{left_by, left_in, left_of, one_if, room_left}
 use Rattle.run_laws.proofs.UsedRoom.{AreUsable, all_at, next_used}
 
@@ -106,85 +104,53 @@ written_before base blank =
     subst (λ (blocks : List BlockBase). HasWritten base blocks (writes_in [])) (sym (blocks_before base blank)) before
 
 -- one more entry, with what it owes over the past
-module _ (state : ℕ → LadderState) (base : ChannelBase) (contents : List (Tag × List ℕ)) (past : List Entry) (tag : Tag) where
+module _ (state : ℕ → LadderState) (base : ChannelBase) (past : List Entry) (tag : Tag) where
   -- an entry that changes no superblock
   unwritten : (written : ℕ) → HasWritten base (blocks_of base past) written
       → HasWritten base (blocks_of base past) (one_if false + written)
   unwritten written before = record { usable = before.usable; all = omega (arith, before.all) }
 
-  written_step : (written : ℕ) (kind : Kind) → IsPlainKind base.shape.bytes contents tag kind
+  written_step : (written : ℕ) (kind : Kind) → IsUncollected kind
       → IsLawfulKind state base past tag kind → HasWritten base (blocks_of base past) written
       → HasWritten base (blocks_after (slots_in base) kind (blocks_of base past)) (one_if (is_write kind) + written)
-  written_step written (Kind.Write row slot) plain c before =
+  written_step written (Kind.Write row slot) kept c before =
       let blocks : List BlockBase = blocks_of base past in
       let after =
       next_used (slots_in base) blocks slot.sb before.usable
       (slot_block blocks (Blocks.next_superblock blocks) slot c.is_programmed.is_next) in
       record { usable = after.usable; all = omega (arith, after.less, before.all) }
-  written_step written (Kind.Trim row) plain c before = unwritten written before
-  written_step written (Kind.Look row found closed) plain c before = unwritten written before
-  written_step written (Kind.Sense at place level) plain c before = unwritten written before
-  written_step written (Kind.Leave at) plain c before = unwritten written before
-  written_step written (Kind.Age die sb amount) plain c before = unwritten written before
-  written_step written kind plain c before = absurd plain
-
-  -- a write is made where the host has room
-  write_has_room : (kind : Kind) → IsLawfulKind state base past tag kind → is_write kind ≡ true
-      → has_host_room base past ≡ true
-  write_has_room (Kind.Write row slot) c is = c.has_room
-  write_has_room kind c is = absurd (cc)
-
--- the past before an entry of a plain past
-older_is_plain : (start : Start) (contents : List (Tag × List ℕ)) (entry : Entry) (past : List Entry)
-    → IsPlainPast start contents (entry ∷ past) → IsPlainPast start contents past
-older_is_plain start contents entry past plain = record {
-  is_plain_start = plain.is_plain_start;
-  is_lawful = plain.is_lawful.0;
-  are_plain = All-tail (λ other. IsPlainKind start.base.shape.bytes contents other.tag other.kind) entry past plain.are_plain;
-}
+  written_step written (Kind.Move at slot) kept c before = absurd kept
+  written_step written (Kind.Pick sb) kept c before = absurd kept
+  written_step written (Kind.Erase sb) kept c before = absurd kept
+  written_step written (Kind.BadWrite row slot die fault) kept c before = absurd kept
+  written_step written (Kind.BadCopy at slot die fault) kept c before = absurd kept
+  written_step written (Kind.BadErase sb die fault) kept c before = absurd kept
+  written_step written kind kept c before = unwritten written before
 
 one_more_entry : (entry : Entry) (past : List Entry) → writes_in (entry ∷ past) ≡ one_if (is_write entry.kind) + writes_in past
 one_more_entry entry past = sum_by-cons (λ (other : Entry). one_if (is_write other.kind)) entry past
 
-written_after : (start : Start) (contents : List (Tag × List ℕ)) (past : List Entry) → IsPlainPast start contents past
-    → HasBlankBlocks start.base → HasWritten start.base (blocks_of start.base past) (writes_in past)
-written_after start contents [] plain blank = written_before start.base blank
-written_after start contents (entry ∷ past) plain blank =
-    let base : ChannelBase = start.base in
-    let ladder = ladder_of (coding_of base) start contents in
-    let older : IsPlainPast start contents past = older_is_plain start contents entry past plain in
-    let step =
-    written_step (ladder past) base contents past entry.tag (writes_in past) entry.kind
-    (All-head (λ other. IsPlainKind base.shape.bytes contents other.tag other.kind) entry past plain.are_plain)
-    plain.is_lawful.1.meets (written_after start contents past older blank) in
-    let blocks : blocks_of base (entry ∷ past) ≡ blocks_after (slots_in base) entry.kind (blocks_of base past) =
-    blocks_after_entry ladder base entry past plain.is_lawful in
-    subst (HasWritten base (blocks_of base (entry ∷ past))) (sym (one_more_entry entry past))
-    (subst (λ (other : List BlockBase). HasWritten base other (one_if (is_write entry.kind) + writes_in past)) (sym blocks) step)
+module _ (start : Start) (contents : List (Tag × List ℕ)) where
+  older : (entry : Entry) (past : List Entry) → IsUncollectedPast (entry ∷ past) → IsUncollectedPast past
+  older entry past kept = All-tail (λ (other : Entry). IsUncollected other.kind) entry past kept
 
-pub plain_pasts_have_room : PlainPastsHaveRoom
-plain_pasts_have_room start contents past plain blank =
-    let after = written_after start contents past plain blank in
+  written_after : (past : List Entry) → IsLawful start contents past → IsUncollectedPast past →
+      HasBlankBlocks start.base → HasWritten start.base (blocks_of start.base past) (writes_in past)
+  written_after [] lawful kept blank = written_before start.base blank
+  written_after (entry ∷ past) lawful kept blank =
+      let base : ChannelBase = start.base in
+      let ladder = ladder_of (coding_of base) start contents in
+      let step =
+      written_step (ladder past) base past entry.tag (writes_in past) entry.kind
+      (All-head (λ (other : Entry). IsUncollected other.kind) entry past kept)
+      lawful.1.meets (written_after past lawful.0 (older entry past kept) blank) in
+      let blocks : blocks_of base (entry ∷ past) ≡ blocks_after (slots_in base) entry.kind (blocks_of base past) =
+      blocks_after_entry ladder base entry past lawful in
+      subst (HasWritten base (blocks_of base (entry ∷ past))) (sym (one_more_entry entry past))
+      (subst (λ (other : List BlockBase). HasWritten base other (one_if (is_write entry.kind) + writes_in past)) (sym blocks) step)
+
+pub uncollected_pasts_have_room : UncollectedPastsHaveRoom
+uncollected_pasts_have_room start contents past lawful kept blank =
+    let after = written_after start contents past lawful kept blank in
     room_left (slots_in start.base) (blocks_of start.base past) (good_in start.base.blocks) (writes_in past)
     after.usable.some_slots after.usable.one_frontier after.usable.due after.all
-
--- so no more pages were written than fit
-pub plain_pasts_fit : (start : Start) (contents : List (Tag × List ℕ)) (past : List Entry) → IsPlainPast start contents past
-    → HasBlankBlocks start.base → writes_in past ≤ pages_that_fit start.base
-plain_pasts_fit start contents [] plain blank = omega arith
-plain_pasts_fit start contents (entry ∷ past) plain blank =
-    let older : IsPlainPast start contents past = older_is_plain start contents entry past plain in
-    let state = ladder_of (coding_of start.base) start contents past in
-    by_kind (is_write entry.kind) (plain_pasts_fit start contents past older blank)
-    (λ e. ltb-true _ _ (sym (plain_pasts_have_room start contents past older blank)
-    ∙ write_has_room state start.base contents past entry.tag entry.kind plain.is_lawful.1.meets e)) refl
-  where
-    by_kind : (b : Bool) → writes_in past ≤ pages_that_fit start.base
-        → (b ≡ true → writes_in past < pages_that_fit start.base) → is_write entry.kind ≡ b
-        → writes_in (entry ∷ past) ≤ pages_that_fit start.base
-    by_kind true few less e =
-        let one : ◌≡◌ {A = ℕ} (one_if (is_write entry.kind)) 1 = ap {B = ℕ} one_if e in
-        omega (arith, one, less refl, one_more_entry entry past)
-    by_kind false few less e =
-        let none : ◌≡◌ {A = ℕ} (one_if (is_write entry.kind)) 0 = ap {B = ℕ} one_if e in
-        omega (arith, none, few, one_more_entry entry past)

@@ -5,24 +5,18 @@
 -- senses; and where the page that a read looked at, and all copies by which it came to its slot, were recovered, the read gives
 -- the data of the row's latest write. The words are those of every run, with any number of channels, actors and
 -- calls. Where the calls are served one after the other, it is said in which order, and where a history's limit stopped them.
-use Rattle.std.specs.Prelude.{ℕ, ◌≡◌, ◌<◌, ◌%◌, IsTrue, is_some, List, [], ◌∷◌, length, map, All, ⊤}
+use Rattle.std.specs.Prelude.{ℕ, ◌≡◌, ◌<◌, IsTrue, is_some, List, [], ◌∷◌, length, map, All, ⊤}
 use Rattle.std.specs.List.{list_all}
 use Rattle.std.specs.Option.{ForSome}
-use Rattle.ssd_histories.specs.CallSteps.{position_of}
-use Rattle.ssd_histories.specs.CallsInOrder.{AreCallsInOrder, AreReplies, ChannelRun, OfRun, reply_to, steps_on}
-use Rattle.ssd_geo.specs.Coding.{coding_of}
-use Rattle.ssd_histories.specs.History.{history_of, look_made}
+use Rattle.ssd_histories.specs.CallsInOrder.{AreCallsInOrder, AreReplies, ChannelRun, reply_to}
+use Rattle.ssd_histories.specs.History.{history_of}
 use Rattle.ssd_histories.specs.HistoryRoom.{found_room}
 use Rattle.ssd_formats.specs.HistoryText.{are_spelled_histories}
 use Rattle.ssd_formats.specs.ImageHead.{Head}
 use Rattle.ssd_histories.specs.LastWrites.{ReadsLastWrite}
-use Rattle.ssd_histories.specs.PlainMap.{AreCopiesRecovered, PlainRow, bytes, nothing, past_at, plain_of, untold}
 use Rattle.ssd_histories.specs.SerialHistory.{AreServed, first_state}
 use Rattle.ssd_histories.specs.SerialStop.{IsSerialStop}
 use Rattle.ssd_histories.specs.Standing.{CountsFaults, IsPastOf, count_at}
-use Rattle.ssd_geo.specs.declared.reply.Reply.{Reply}
-use Rattle.ssd_geo.specs.declared.tag.Tag.{Tag}
-use Rattle.ssd_geo.specs.declared.trace.Verb.{Verb}
 use Rattle.run_laws.specs.Runs.{FaultCounts, Run, channels_of, data_in}
 
 -- the counts of the dies of a channel: neither count of a die fell, and the work count rose by at least as many as the

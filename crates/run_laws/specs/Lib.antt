@@ -6,6 +6,7 @@ pub mod Runs
 pub mod ServedPasts
 pub mod ServedRuns
 pub mod SerialRuns
+pub mod Serials
 pub mod Starts
 pub mod StoppedRuns
 pub mod WrittenRoom

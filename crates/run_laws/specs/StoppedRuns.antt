@@ -1,19 +1,17 @@
--- What holds of a run that stopped in a call, since its channel's history had no room for the call's next step? The calls before it
--- were served one after the other and have their replies; the call that stopped has no reply, and no call after it was begun.
-use Rattle.std.specs.Prelude.{ℕ, ◌≡◌, ◌≤◌, ◌<◌, Bool, false, IsTrue, List, [], ◌∷◌, ◌++◌, length, sum_by, slice_get, slice_index_or, Some, All, ⊤}
-use Rattle.ssd_histories.specs.HistoryRoom.{has_look_room, has_step_room}
-use Rattle.ssd_formats.specs.Input.{Input}
-use Rattle.ssd_histories.specs.Room.{has_host_room}
-use Rattle.ssd_formats.specs.RunText.{taken_by}
-use Rattle.ssd_histories.specs.Start.{Start}
-use Rattle.ssd_formats.specs.TraceText.{kinds_of_actor}
+-- Which call stops before its first entry? One of the verbs that are served so, which finds no room for that entry in its channel's
+-- history; a write would have found room for the host. With an entry more it would be whole.
+use Rattle.std.specs.Prelude.{ℕ, ◌≡◌, Bool, false, IsTrue, List, length, slice_get, Some, ⊤}
 use Rattle.ssd_geo.specs.declared.entry.Entry.{Entry}
-use Rattle.ssd_geo.specs.declared.reply.Reply.{Reply}
+use Rattle.ssd_geo.specs.declared.tag.Tag.{Tag}
 use Rattle.ssd_geo.specs.declared.trace.TraceCall.{TraceCall}
 use Rattle.ssd_geo.specs.declared.trace.Verb.{Verb}
-use Rattle.run_laws.specs.Headline.{Headline, IsStoppedRun}
-use Rattle.run_laws.specs.Runs.{FaultCounts, Run}
-use Rattle.run_laws.specs.ServedRuns.{ChannelsHold, IsServedRun, channel_of, run_of_input}
+use Rattle.ssd_histories.specs.HistoryRoom.{has_look_room, has_step_room}
+use Rattle.ssd_histories.specs.Room.{has_host_room}
+use Rattle.ssd_histories.specs.SerialHistory.{SerialState}
+use Rattle.ssd_histories.specs.SerialStop.{SerialCut}
+use Rattle.ssd_histories.specs.Start.{Start}
+use Rattle.run_laws.specs.Runs.{runs_with}
+use Rattle.run_laws.specs.ServedRuns.{channel_of}
 
 -- whether the first entry that a call of a verb makes on its channel finds room in a history with this limit
 abbrev pub has_first_room : ℕ → List Entry → Verb → Bool
@@ -35,10 +33,8 @@ WouldFindRoom start past (Verb.Write page content) = IsTrue (has_host_room start
 WouldFindRoom start past verb = ⊤
 
 -- a call of a run stopped before its first step
-pub record StopsAt (input : Input) (starts : List Start) (done : List TraceCall) (pasts : List (List Entry)) (call : TraceCall) (channel entries : ℕ) : Type 0 where
-  pub rest : List TraceCall
-  pub are_calls : input.calls.calls ≡ done ++ call ∷ rest
-  pub plain_verbs : All (λ call. IsPlainVerb call.verb) input.calls.calls
+pub record StopsAt (starts : List Start) (pasts : List (List Entry)) (call : TraceCall) (channel entries : ℕ) : Type 0 where
+  pub is_plain : IsPlainVerb call.verb
   pub is_channel : channel_of (length starts) call.verb ≡ Some channel
   pub start : Start
   pub past : List Entry
@@ -48,18 +44,11 @@ pub record StopsAt (input : Input) (starts : List Start) (done : List TraceCall)
   pub has_length : length past ≡ entries
   pub no_room : has_first_room start.limit past call.verb ≡ false
 
--- what holds where a run stopped
-pub record HoldsOfStop (input : Input) (run : Run) (channel entries : ℕ) : Type 0 where
-  pub headline : Headline input.head run
-  pub is_stopped : IsStoppedRun input.head run channel entries
-  pub few_replies :
-      (actor : ℕ) → actor < input.calls.actors →
-      length (slice_index_or run.replies actor []) ≤ length (kinds_of_actor input.calls.calls actor)
-  pub none_taken : sum_by (sum_by taken_by) run.replies ≡ 0
-
-abbrev pub ServedRunsStop : Type 0
-ServedRunsStop =
-    (input : Input) (starts : List Start) (done : List TraceCall) (replies : List (List Reply)) (pasts : List (List Entry)) (faults : List FaultCounts) (call : TraceCall) (channel entries : ℕ) →
-    IsServedRun input starts done replies pasts → StopsAt input starts done pasts call channel entries →
-    ChannelsHold input starts pasts faults →
-    HoldsOfStop input (run_of_input input starts replies pasts faults) channel entries
+-- such a call was cut there: with an entry more it would be whole
+abbrev pub FirstStepsAreCut : Type 0
+FirstStepsAreCut =
+    (contents : List (Tag × List ℕ)) (starts : List Start) (pasts : List (List Entry)) (hints : List ℕ) (dropped : ℕ)
+    (call : TraceCall) (channel entries : ℕ) →
+    StopsAt starts pasts call channel entries →
+    let state : SerialState = record { channels = runs_with starts pasts; hints = hints; dropped = dropped } in
+    SerialCut contents (length starts) channel entries call.tag call.verb state state

@@ -1,8 +1,9 @@
 -- How many pages may be written to a channel of a blank drive before the host has no room there, as long as nothing is
 -- collected? Each write uses one slot more, and one superblock is kept free for copies.
-use Rattle.std.specs.Prelude.{ℕ, ◌≡◌, ◌-◌, ◌*◌, ◌%◌, ◌==◌, nat_lt, Bool, true, false, ◌||◌, not, IsTrue, List, length, count_by}
+use Rattle.std.specs.Prelude.{ℕ, ◌≡◌, ◌-◌, ◌*◌, ◌%◌, ◌==◌, nat_lt, Bool, true, false, ◌||◌, not, IsTrue, List, length, All, count_by, slice_get, Some, ⊤}
 use Rattle.std.specs.List.{list_all}
 use Rattle.ssd_histories.specs.Blocks.{AreSound}
+use Rattle.ssd_histories.specs.Lawful.{IsLawful}
 use Rattle.ssd_histories.specs.PastBlocks.{slots_in}
 use Rattle.ssd_histories.specs.Room.{has_host_room}
 use Rattle.ssd_histories.specs.Start.{Start}
@@ -14,7 +15,6 @@ use Rattle.ssd_geo.specs.declared.kind.Kind.{Kind}
 use Rattle.ssd_geo.specs.declared.tag.Tag.{Tag}
 use Rattle.ssd_geo.specs.declared.trace.TraceCall.{TraceCall}
 use Rattle.ssd_geo.specs.declared.trace.Verb.{Verb}
-use Rattle.run_laws.specs.ServedPasts.{IsPlainPast}
 
 -- how many superblocks aren't bad
 abbrev pub good_in : List BlockBase → ℕ
@@ -46,9 +46,29 @@ is_write_to channels channel _ = false
 abbrev pub writes_to : ℕ → ℕ → List TraceCall → ℕ
 writes_to channels channel calls = count_by (λ call. is_write_to channels channel call.verb) calls
 
+-- an entry programs no page but a write's, and picks and empties no superblock
+abbrev pub IsUncollected : Kind → Type 0
+IsUncollected (Kind.Move at slot) = ⊥
+IsUncollected (Kind.Pick sb) = ⊥
+IsUncollected (Kind.Erase sb) = ⊥
+IsUncollected (Kind.BadWrite row slot die fault) = ⊥
+IsUncollected (Kind.BadCopy at slot die fault) = ⊥
+IsUncollected (Kind.BadErase sb die fault) = ⊥
+IsUncollected _ = ⊤
+
+-- a past in which nothing was collected, and no program failed
+abbrev pub IsUncollectedPast : List Entry → Type 0
+IsUncollectedPast past = All (λ entry. IsUncollected entry.kind) past
+
 -- the host has room exactly while fewer pages than fit were written
-abbrev pub PlainPastsHaveRoom : Type 0
-PlainPastsHaveRoom =
+abbrev pub UncollectedPastsHaveRoom : Type 0
+UncollectedPastsHaveRoom =
     (start : Start) (contents : List (Tag × List ℕ)) (past : List Entry) →
-    IsPlainPast start contents past → HasBlankBlocks start.base →
+    IsLawful start contents past → IsUncollectedPast past → HasBlankBlocks start.base →
     has_host_room start.base past ≡ nat_lt (writes_in past) (pages_that_fit start.base)
+
+-- the pasts of so many channels after some calls: nothing was collected, and each has an entry for each write to its channel
+pub record HasWrites (channels : ℕ) (done : List TraceCall) (pasts : List (List Entry)) : Type 0 where
+  pub uncollected : All IsUncollectedPast pasts
+  pub counted :
+      (channel : ℕ) (past : List Entry) → slice_get pasts channel ≡ Some past → writes_in past ≡ writes_to channels channel done

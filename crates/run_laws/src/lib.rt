@@ -6,11 +6,11 @@ mod pages;
 mod serial;
 mod serving;
 
-pub use pages::{no_page_is_lost, pages_are_read_at_once, plain_pasts_have_room};
+pub use pages::{no_page_is_lost, pages_are_read_at_once, uncollected_pasts_have_room};
 pub use serial::{
     serial_runs_begin, serial_runs_go_on, serial_runs_hold, serial_stops_hold, served_fronts_stop,
 };
 pub use serving::{
-    run_texts_tell_pasts, served_runs_have_room, served_runs_hold, served_runs_stop,
-    serves_one_more, serving_begins, tags_give_data, uncounted_faults_are_none,
+    first_steps_are_cut, run_texts_tell_pasts, tags_give_data, uncounted_faults_are_none,
+    undrained_runs_go_on,
 };

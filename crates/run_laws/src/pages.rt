@@ -1,10 +1,11 @@
-//! Laws of the pages that a channel holds whose calls are served one after the other.
+//! Laws of the pages that a channel holds.
 ghost use Rattle.run_laws.specs.FirstSenses.{NoPageIsLost, PagesAreReadAtOnce};
-ghost use Rattle.run_laws.specs.WrittenRoom.{PlainPastsHaveRoom};
+ghost use Rattle.run_laws.specs.WrittenRoom.{UncollectedPastsHaveRoom};
 
-/// The host has room on a channel of a blank drive exactly while fewer pages than fit were written to it.
-pub fn plain_pasts_have_room()
-    ensures { PlainPastsHaveRoom }
+/// The host has room on a channel of a blank drive exactly while fewer pages than fit were written to it, as long as nothing
+/// was collected there.
+pub fn uncollected_pasts_have_room()
+    ensures { UncollectedPastsHaveRoom }
 {}
 
 /// Where no block was aged, a page that a row names is recovered from the first sense of a look, and has the data of the

@@ -1,37 +1,22 @@
-//! Laws of runs whose calls are served one after the other.
+//! Laws of runs whose calls are served one after the other, without taking hints.
 ghost use Rattle.run_laws.specs.CountedFaults.{UncountedFaultsAreNone};
 ghost use Rattle.run_laws.specs.PrintedRuns.{RunTextsTellPasts};
-ghost use Rattle.run_laws.specs.StoppedRuns.{ServedRunsStop};
-ghost use Rattle.run_laws.specs.ServedRuns.{ServedRunsHaveRoom, ServedRunsHold, ServesOneMore, ServingBegins, TagsGiveData};
+ghost use Rattle.run_laws.specs.ServedRuns.{TagsGiveData, UndrainedRunsGoOn};
+ghost use Rattle.run_laws.specs.StoppedRuns.{FirstStepsAreCut};
 
-/// Before the first call all that is asked of a run so far holds.
-pub fn serving_begins()
-    ensures { ServingBegins }
+/// After a call that led its channel on, one more was served.
+pub fn undrained_runs_go_on()
+    ensures { UndrainedRunsGoOn }
 {}
 
-/// It goes on holding after one more call.
-pub fn serves_one_more()
-    ensures { ServesOneMore }
-{}
-
-/// After the last call the statement on a whole run holds.
-pub fn served_runs_hold()
-    ensures { ServedRunsHold }
+/// A call that finds no room for its first entry was cut there.
+pub fn first_steps_are_cut()
+    ensures { FirstStepsAreCut }
 {}
 
 /// The data of a write are found by its call's tag.
 pub fn tags_give_data()
     ensures { TagsGiveData }
-{}
-
-/// A write of such a run finds room exactly while fewer pages than fit were written to its channel.
-pub fn served_runs_have_room()
-    ensures { ServedRunsHaveRoom }
-{}
-
-/// Where a call finds no room in its channel's history, the statement holds of the calls before it.
-pub fn served_runs_stop()
-    ensures { ServedRunsStop }
 {}
 
 /// Of a die whose count of work is at the end of a run what it was at the start, no entry tells that it failed.

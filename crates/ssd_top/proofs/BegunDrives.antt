@@ -11,12 +11,13 @@ use Rattle.run_laws.specs.Headline.{CountsAll}
 use Rattle.run_laws.specs.Runs.{FaultCounts}
 use Rattle.run_laws.specs.Starts as Starts
 use Rattle.run_laws.specs.Starts.{base_of, starts_from}
-use Rattle.run_laws.specs.ServedRuns.{BeginsAs, contents_in, AreStartsOf, HasData, IsServedFrom, IsServedRun}
+use Rattle.run_laws.specs.SerialRuns.{HasData}
+use Rattle.run_laws.specs.ServedRuns.{BeginsAs, contents_in, AreStartsOf, IsServedFrom, IsUndrainedRun}
 use Rattle.ssd_histories.specs.CallsInOrder.{AreNumberedAfter}
-use Rattle.run_laws.specs.ServedPasts.{IsPlainStart}
 use Rattle.ssd_top.specs.Handed.{handed_in, history_limit, no_faults, nothing_handed}
-use Rattle.run_laws.specs.WrittenRoom.{HasBlankBlocks}
-use Rattle.run_laws.proofs.BegunRuns.{serving_begins}
+use Rattle.run_laws.specs.WrittenRoom.{HasBlankBlocks, HasWrites}
+use Rattle.run_laws.specs.Serials.{HasSmallSerial, HasSmallSerials}
+use Rattle.run_laws.proofs.UndrainedRuns.{undrained_runs_begin, writes_begin}
 use Rattle.ssd_geo.specs.BaseMatrix.{IsAccepted, MatrixFault}
 use Rattle.ssd_geo.specs.Coding as Coding
 use Rattle.ssd_geo.specs.Limits.{Sizes, cells_of, is_column_count, is_within}
@@ -225,22 +226,19 @@ head_accepted head ok =
       faultless = ap (λ (fault : Option MatrixFault). is_none fault) ok.faultless;
     }
 
+-- every row of empty ones is empty
+empty_at : (n row : ℕ) → get_or (replicate n Row.Empty) row Row.Empty ≡ Row.Empty
+empty_at zero row = refl
+empty_at (suc n) zero = refl
+empty_at (suc n) (suc row) = empty_at n row
+
 -- a worker of a drive
 module _ (head : Head) (ok : IsHead head) (worker : WorkerState) (is_worker : IsWorkerOf head worker) where
-  -- its channels begin without pages, and their words give their data
-  is_plain : (number : ℕ) (channel : ChannelState) (begun : IsBegun head number channel) → IsPlainStart (start_of begun)
-  is_plain number channel begun =
-      let same_matrix : Coding.matrix_of begun.base ≡ matrix_of_head head = λ i.
-      record {
-        z = (begun.is_base.shape i).z;
-        mb = (begun.is_base.shape i).mb;
-        nb = (begun.is_base.shape i).nb;
-        entries = begun.is_base.entries i;
-      } in
-      record {
-        no_page = begun.is_base.rows ∙ ap (λ (sizes : Sizes). replicate sizes.rows Row.Empty) (sym begun.is_base.shape);
-        words_give_data = words_give_data begun.base;
-      }
+  -- its channels begin without pages, so their rows have no serial
+  small_serials : (number : ℕ) (channel : ChannelState) (begun : IsBegun head number channel) → HasSmallSerials begun.base
+  small_serials number channel begun row =
+      subst HasSmallSerial
+      (sym (ap {B = Row} (λ (rows : List Row). get_or rows row Row.Empty) begun.is_base.rows ∙ empty_at head.sizes.rows row)) tt
 
   -- and the worker works for them
   works : (number : ℕ) (channel : ChannelState) (begun : IsBegun head number channel) → WorksFor worker (start_of begun)
@@ -328,7 +326,6 @@ running_begins head ok trace served worker is_worker channels are numbered have_
       are_starts =
           subst (λ count. AreStartsOf head 0 (map (blank_channel head) (range_with_len 0 count)) starts) are.as_many
           (are_starts head 0 channels begun);
-      are_plain = each_start IsPlainStart head (is_plain head ok worker is_worker) 0 channels begun;
       same_bytes =
           each_start (λ start. start.base.shape.bytes ≡ head.sizes.bytes) head
           (λ number channel of. ap (λ (sizes : Sizes). sizes.bytes) of.is_base.shape) 0 channels begun;
@@ -343,9 +340,10 @@ running_begins head ok trace served worker is_worker channels are numbered have_
           starts ≡ starts_from worker.shape head history_limit 0 saved (handed_in head saved))
           are.as_many (starts_from_image worker.shape head is_worker.sizes_are 0 channels begun);
       sizes_are = is_worker.sizes_are;
+      is_served_from = from;
       served =
-          subst (IsServedRun (blank_input head trace) starts [] (replicate trace.actors [])) (no_pasts head 0 channels begun)
-          (serving_begins (blank_input head trace) starts from);
+          subst (IsUndrainedRun (contents_in (blank_input head trace)) starts trace.actors [] (replicate trace.actors []))
+          (no_pasts head 0 channels begun) (undrained_runs_begin (contents_in (blank_input head trace)) starts trace.actors);
       are_channels =
           each_channel (IsChannelOf (blank_input head trace) worker) head (is_channel head ok worker is_worker (blank_input head trace)) 0
           channels begun;
@@ -353,6 +351,10 @@ running_begins head ok trace served worker is_worker channels are numbered have_
       few_actors = few_actors;
       few_calls = few_calls;
       fits = fits;
+      serials =
+          each_start (λ start. HasSmallSerials start.base) head (small_serials head ok worker is_worker) 0 channels begun;
+      writes =
+          subst (HasWrites (length starts) []) (no_pasts head 0 channels begun) (writes_begin (length starts) starts);
       blank =
           each_start (λ start. HasBlankBlocks start.base) head
           (λ number channel of. has_blank_blocks head number of.base of.is_base) 0 channels begun;

@@ -19,7 +19,7 @@ use Rattle.ssd_geo.specs.declared.trace.Verb.{Verb}
 use Rattle.ssd_geo.specs.declared.trace.Verb.TheVariants.{Write, Read, Trim, Refresh, Collect, Drain, Age}
 use Rattle.ssd_histories.specs.LastWrites.{IsData}
 use Rattle.ssd_histories.specs.CallsInOrder as Calls
-use Rattle.run_laws.specs.ServedRuns.{HasData}
+use Rattle.run_laws.specs.SerialRuns.{HasData}
 use Rattle.trace_text.specs.NumberedCalls.{AreNumberedAfter, IsContentOf, IsVerbOf}
 use Rattle.ssd_top.specs.Running.{FitsDrive}
 use Rattle.ssd_top.specs.Workers as Workers

@@ -10,21 +10,24 @@ use Rattle.std.proofs.lemmas.Option.{slice_get-map, slice_get_within}
 use Rattle.chan_calls.specs.Workers.{WorkerState}
 use Rattle.chan_state.specs.ChannelState.{ChannelState, StandsFor}
 use Rattle.run_laws.specs.Headline.{CountsAll}
-use Rattle.run_laws.specs.Runs.{FaultCounts, runs_with}
-use Rattle.run_laws.specs.ServedPasts.{IsPlainPast}
-use Rattle.ssd_histories.specs.CallsInOrder.{ChannelRun, AreNumberedAfter}
+use Rattle.run_laws.specs.Runs.{FaultCounts}
+use Rattle.ssd_histories.specs.CallsInOrder.{AreNumberedAfter}
 use Rattle.ssd_formats.specs.HistoryText.{is_spelled_entry}
-use Rattle.run_laws.specs.ServedRuns.{contents_in, AreStartsOf, IsServedRun, ServesNext, channel_of, with_reply}
+use Rattle.run_laws.specs.SerialRuns.{with_reply}
+use Rattle.run_laws.specs.ServedRuns.{contents_in, AreStartsOf, IsUndrainedRun, LeadsOn, channel_of}
 use Rattle.ssd_histories.specs.ServedCalls.{IsServedBy}
 use Rattle.run_laws.specs.StoppedRuns.{IsPlainVerb, WouldFindRoom, has_first_room}
-use Rattle.run_laws.specs.WrittenRoom.{HasBlankBlocks, is_write_to, pages_that_fit, writes_to}
-use Rattle.run_laws.proofs.ChangedRuns.{all_at, get_set, get_set_other, one_or_other, run_at}
-use Rattle.run_laws.proofs.NumberedCalls.{numbered_next, tags_give_data}
-use Rattle.run_laws.proofs.ServedNext.{serves_one_more}
-use Rattle.run_laws.proofs.ServedRoom.{served_runs_have_room}
+use Rattle.run_laws.specs.WrittenRoom.{HasBlankBlocks, HasWrites, IsUncollectedPast, is_write_to, pages_that_fit, writes_to}
+use Rattle.run_laws.proofs.ChangedRuns.{get_set, one_or_other}
+use Rattle.serial_laws.proofs.Lists.{all_at, get_set_other}
+use Rattle.serial_laws.proofs.NumberedTags.{numbered_back}
+use Rattle.run_laws.proofs.TaggedData.{tags_give_data}
+use Rattle.run_laws.proofs.UndrainedRuns.{undrained_runs_go_on, writes_go_on}
+use Rattle.run_laws.proofs.WrittenRoom.{uncollected_pasts_have_room}
 use Rattle.run_laws.proofs.SparedChannels.{serves_find_room, serves_spare_dies}
 use Rattle.run_laws.proofs.SpelledCalls.{IsSmallVerb, Keeps, serves_spelled}
 use Rattle.run_laws.proofs.SpelledPasts.{IsSmallTag}
+use Rattle.run_laws.specs.Serials.{HasSmallSerials}
 use Rattle.run_laws.proofs.UsedRoom as Lists
 use Rattle.ssd_geo.specs.Faults.{RoseBy}
 use Rattle.ssd_histories.specs.HistoryRoom.{found_room}
@@ -93,7 +96,7 @@ module _ (input : Input) (worker : WorkerState) (channels : List ChannelState)
   many_starts = sym running.served.as_many ∙ length-map channels past_in
 
   pub some_channel : 0 < length channels
-  some_channel = subst (λ n. 0 < n) many_starts running.served.is_served_from.some_channel
+  some_channel = subst (λ n. 0 < n) many_starts running.is_served_from.some_channel
 
   -- the next call, on its channel
   module _ (call : TraceCall) (rest : List TraceCall)
@@ -104,6 +107,11 @@ module _ (input : Input) (worker : WorkerState) (channels : List ChannelState)
         input.calls.calls (length done) call running.fits
         (subst (λ calls. slice_get calls (length done) ≡ Some call) (sym split)
         (call_there done call rest))
+
+    numbered : AreNumberedAfter input.calls.actors [] (done ++ call ∷ rest)
+    numbered =
+        subst (λ calls. AreNumberedAfter input.calls.actors [] calls) split
+        running.is_served_from.numbered
 
     pub low : (k : ℕ) → channel_of (length channels) call.verb ≡ Some k → k < length channels
     low k on = channel_low worker.shape (length channels) k call.verb some_channel on fits
@@ -130,21 +138,17 @@ module _ (input : Input) (worker : WorkerState) (channels : List ChannelState)
       abbrev contents_here : List (Tag × List ℕ)
       contents_here = contents_in input
 
-      -- the past is that of writes, trims, reads and ageings
-      plain : IsPlainPast start contents_here old.past
-      plain =
-          all_at (λ (run : ChannelRun). IsPlainPast run.start contents_here run.past)
-          (runs_with running.starts (pasts_of channels)) k (record { start = start; past = old.past })
-          running.served.are_plain
-          (run_at running.starts (pasts_of channels) k start old.past there.1 has_past)
+      -- its start's rows have serials of 64 bits
+      serials : HasSmallSerials start.base
+      serials =
+          all_at (λ (other : Start). HasSmallSerials other.base) running.starts k start running.serials
+          there.1
 
       -- the numbers of the call's tag fit their fields
       small_tag : IsSmallTag call.tag
       small_tag =
           let number =
-          numbered_next input.calls.actors [] done call rest
-          (subst (λ calls. AreNumberedAfter input.calls.actors [] calls) split
-          running.served.is_served_from.numbered) in
+          (numbered_back input.calls.actors [] done (call ∷ rest) numbered).0 in
           let actor = number.is_actor in
           let actors = running.few_actors in
           let is_number = number.is_number in
@@ -167,13 +171,13 @@ module _ (input : Input) (worker : WorkerState) (channels : List ChannelState)
           split ∙ ap (λ (other : TraceCall). done ++ other ∷ rest) same in
           let of_start : start.base.shape.bytes ≡ input.head.sizes.bytes =
           all_at (λ (other : Start). other.base.shape.bytes ≡ input.head.sizes.bytes) running.starts
-          k start running.served.is_served_from.same_bytes there.1 in
+          k start running.is_served_from.same_bytes there.1 in
           let of_worker : worker.shape.bytes ≡ start.base.shape.bytes =
           ap (λ shape. shape.bytes) of_run.works.shape_is in
           ap (λ list. data_of (contents_of input.head.sizes.bytes list) call.tag) calls
           ∙ tags_give_data input.calls.actors input.head.sizes.bytes done rest call.tag page content
           (subst (λ list. AreNumberedAfter input.calls.actors [] list) calls
-          running.served.is_served_from.numbered)
+          running.is_served_from.numbered)
           ∙ ap (λ n. content_bytes n content) (sym (of_worker ∙ of_start))
 
       own_data : (verb : Verb) → call.verb ≡ verb →
@@ -191,17 +195,22 @@ module _ (input : Input) (worker : WorkerState) (channels : List ChannelState)
           has_host_room start.base old.past ≡ true
       write_room page content verb =
           let are : AreStartsOf input.head 0 input.channels running.starts =
-          running.served.is_served_from.are_starts in
+          running.is_served_from.are_starts in
           let as_many : length input.channels ≡ length running.starts =
           Inputs.as_many_starts input.head 0 input.channels running.starts are in
           let at =
           Inputs.start_at input.head 0 input.channels running.starts k k start (omega arith) are
           there.1 in
-          let room =
-          served_runs_have_room input running.starts done replies (pasts_of channels) k start
-          old.past running.served there.1 has_past
+          let written =
+          running.writes.counted k old.past has_past in
+          let room : has_host_room start.base old.past ≡
+          nat_lt (writes_to (length running.starts) k done) (pages_that_fit start.base) =
+          uncollected_pasts_have_room start (contents_in input) old.past
+          of_run.stands.is_past.is_lawful
+          (all_at IsUncollectedPast (pasts_of channels) k old.past running.writes.uncollected has_past)
           (all_at (λ (other : Start). HasBlankBlocks other.base) running.starts k start
-          running.blank there.1) in
+          running.blank there.1)
+          ∙ ap {B = Bool} (λ (n : ℕ). nat_lt n (pages_that_fit start.base)) written in
           let page_on : Some (page % length running.starts) ≡ Some k =
           sym (ap (channel_of (length running.starts)) verb) ∙ on_start in
           let on_page : page % length running.starts ≡ k = cc in
@@ -277,12 +286,15 @@ module _ (input : Input) (worker : WorkerState) (channels : List ChannelState)
             ]
 
         after : (calls : List TraceCall) (answers : List (List Reply)) →
-            IsServedRun input running.starts calls answers (pasts_of (slice_set channels k new)) →
+            IsUndrainedRun (contents_in input) running.starts input.calls.actors calls answers
+            (pasts_of (slice_set channels k new)) →
+            HasWrites (length running.starts) calls (pasts_of (slice_set channels k new)) →
             IsRunning input worker (slice_set channels k new) calls answers
-        after calls answers served = record {
+        after calls answers served writes = record {
           starts = running.starts;
           starts_are = running.starts_are;
           sizes_are = running.sizes_are;
+          is_served_from = running.is_served_from;
           served = served;
           are_channels = are_channels;
           few_channels = subst (λ n. n ≤ 8) (sym (length-set channels k new)) running.few_channels;
@@ -291,7 +303,9 @@ module _ (input : Input) (worker : WorkerState) (channels : List ChannelState)
           fits =
               subst (λ n. All (λ call. FitsDrive worker.shape n call.verb) input.calls.calls)
               (sym (length-set channels k new)) running.fits;
+          serials = running.serials;
           blank = running.blank;
+          writes = writes;
           has_room = running.has_room;
           all_served = running.all_served;
         }
@@ -315,13 +329,13 @@ module _ (input : Input) (worker : WorkerState) (channels : List ChannelState)
           (serves_spare_dies start (contents_in input) (length channels) call.tag reply old.past
           new.past die call.verb made.1) (of_run.counts die low) in
           let kept : Keeps start contents_here of_run.stands.is_past.is_start call.tag small_tag old.past
-          new.past plain made.0.is_past.is_lawful of_run.spelled new.past =
+          new.past serials made.0.is_past.is_lawful of_run.spelled new.past =
           serves_spelled start contents_here of_run.stands.is_past.is_start call.tag small_tag old.past
-          new.past plain made.0.is_past.is_lawful of_run.spelled (length channels) call.verb reply
+          new.past serials made.0.is_past.is_lawful of_run.spelled (length channels) call.verb reply
           (small_verb worker.shape (length channels) call.verb fits) made.1
           (subst (λ limit. has_first_room limit old.past call.verb ≡ true) of_run.stands.limit_is
           serves.0) in
-          let next : ServesNext input running.starts (pasts_of channels) call reply k new.past =
+          let next : LeadsOn contents_here running.starts (pasts_of channels) call reply k new.past =
           record {
             start = start;
             past = old.past;
@@ -333,11 +347,16 @@ module _ (input : Input) (worker : WorkerState) (channels : List ChannelState)
                 new.past) (sym many_starts) made.1;
             is_lawful = made.0.is_past.is_lawful;
           } in
+          let set : slice_set (pasts_of channels) k new.past ≡ pasts_of (slice_set channels k new) =
+          sym (map-set past_in channels k new) in
           after new made.0 has_room counts kept.0 kept.1 (done ++ call ∷ []) (with_reply replies call.tag.actor reply)
-          (subst (λ pasts. IsServedRun input running.starts (done ++ call ∷ [])
-          (with_reply replies call.tag.actor reply) pasts) (sym (map-set past_in channels k new))
-          (serves_one_more input running.starts done rest replies (pasts_of channels) call reply k
-          new.past running.served split next))
+          (subst (λ pasts. IsUndrainedRun contents_here running.starts input.calls.actors
+          (done ++ call ∷ []) (with_reply replies call.tag.actor reply) pasts) set
+          (undrained_runs_go_on contents_here running.starts input.calls.actors done rest call reply
+          replies (pasts_of channels) k new.past numbered running.served next))
+          (subst (λ pasts. HasWrites (length running.starts) (done ++ call ∷ []) pasts) set
+          (writes_go_on contents_here running.starts input.calls.actors done rest call reply
+          replies (pasts_of channels) k new.past numbered running.served next running.writes))
 
       -- where its channel's history has no room, the run stops
       pub stops : (new : ChannelState) (entries : ℕ) →
@@ -355,7 +374,9 @@ module _ (input : Input) (worker : WorkerState) (channels : List ChannelState)
           full.past_stays ∙ set_same (pasts_of channels) k old.past has_past in
           record {
             done = done;
+            rest = rest;
             call = call;
+            are_calls = split;
             running =
                 after new stands
                 (subst (λ past. found_room start.limit past ≡ true) (sym full.past_stays)
@@ -366,12 +387,16 @@ module _ (input : Input) (worker : WorkerState) (channels : List ChannelState)
                 of_run.spelled)
                 (subst (λ past. length past ≤ start.limit) (sym full.past_stays) of_run.short)
                 done replies (subst
-                (λ pasts. IsServedRun input running.starts done replies pasts) (sym same)
-                running.served);
+                (λ pasts. IsUndrainedRun (contents_in input) running.starts input.calls.actors done
+                replies pasts) (sym same) running.served)
+                (subst (λ pasts. HasWrites (length running.starts) done pasts) (sym same)
+                running.writes);
             stops = record {
-              rest = rest;
-              are_calls = split;
-              plain_verbs = all_plain input.calls.calls running.all_served;
+              is_plain =
+                  all_at (λ (other : TraceCall). IsPlainVerb other.verb) input.calls.calls
+                  (length done) call (all_plain input.calls.calls running.all_served)
+                  (subst (λ calls. slice_get calls (length done) ≡ Some call) (sym split)
+                  (call_there done call rest));
               is_channel = on_start;
               start = start;
               past = old.past;

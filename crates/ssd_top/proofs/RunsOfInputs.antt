@@ -1,21 +1,24 @@
 -- When calls of an input were served, all or those before a stop, what was made to be printed is of
 -- a run of the input.
-use Rattle.std.proofs.Common.{ℕ, zero, suc, ◌≡◌, ◌-◌, ◌<◌, ◌≤◌, List, [], ◌∷◌, Option, Some, None, true, length, map, refl, sym, ap, subst, ◌∙◌, arith}
+use Rattle.std.proofs.Common.{ℕ, zero, suc, ◌≡◌, ◌-◌, ◌<◌, ◌≤◌, List, [], ◌∷◌, ◌++◌, Option, Some, None, true, filter, length, map, refl, sym, ap, subst, ◌∙◌, arith}
 use Rattle.std.proofs.lemmas.List.FromFn.{get_or-map-range_with_len, length-map-range_with_len}
 use Rattle.std.proofs.lemmas.List.{length-map}
+use Rattle.std.proofs.lemmas.List.Sums.{length-filter}
 use Rattle.std.proofs.lemmas.List.Elements.{All-cons, All-nil}
 use Rattle.std.proofs.lemmas.Option.{slice_get_within}
 use Rattle.std.specs.Prelude.{All, IsTrue, slice_get, slice_index_or, sum_by}
 use Rattle.chan_calls.specs.Workers.{WorkerState}
 use Rattle.chan_state.specs.ChannelState.{ChannelState}
 use Rattle.history_text.specs.Places.{AsLong}
-use Rattle.run_laws.proofs.RunHeadline.{served_runs_hold}
+use Rattle.run_laws.proofs.SerialHeadline.{serial_runs_hold}
+use Rattle.run_laws.proofs.ServedFronts.{served_fronts_stop}
 use Rattle.run_laws.proofs.SpelledHistories.{IsSpelledPast, spelled_histories}
-use Rattle.run_laws.proofs.StoppedRuns.{served_runs_stop}
+use Rattle.run_laws.proofs.StoppedRuns.{first_steps_are_cut}
 use Rattle.run_laws.specs.Headline.{AreCounted, CountsAll, Headline}
 use Rattle.run_laws.specs.Runs.{Run, runs_with, text_of_run}
-use Rattle.run_laws.specs.ServedRuns.{ChannelsHold, HoldsOfRun, contents_in, hints_in, run_of_input}
-use Rattle.run_laws.specs.StoppedRuns.{HoldsOfStop}
+use Rattle.run_laws.specs.SerialRuns.{ChannelsHold, HasCalls, IsHeadlineOfStop, IsHeadlineOfWhole}
+use Rattle.run_laws.specs.ServedRuns.{contents_in, hints_in, run_of_input}
+use Rattle.serial_laws.proofs.NumberedTags.{counts_grow, counts_in}
 use Rattle.ssd_geo.specs.Limits.{is_within}
 use Rattle.ssd_histories.specs.CallsInOrder.{ChannelRun}
 use Rattle.ssd_histories.specs.History.{history_of}
@@ -28,7 +31,7 @@ use Rattle.ssd_formats.specs.Input.{Input}
 use Rattle.ssd_formats.specs.Numbers.{Text}
 use Rattle.ssd_formats.specs.RunText.{run_text, taken_by}
 use Rattle.ssd_histories.specs.SerialHistory.{most_hints}
-use Rattle.ssd_formats.specs.TraceText.{kinds_of_actor, kinds_of_trace}
+use Rattle.ssd_formats.specs.TraceText.{is_of_actor, kind_of_verb, kinds_of_actor, kinds_of_trace}
 use Rattle.ssd_geo.specs.declared.entry.Entry.{Entry}
 use Rattle.ssd_geo.specs.declared.reply.Reply.{Reply}
 use Rattle.ssd_geo.specs.declared.trace.TraceCall.{TraceCall}
@@ -39,6 +42,11 @@ use Rattle.ssd_top.specs.Printed.{text_of}
 use Rattle.ssd_top.specs.Running.{IsRunning, pasts_of}
 use Rattle.ssd_top.specs.Serving.{EndsAt, IsOfInput, LeadsTo}
 use Rattle.ssd_top.specs.declared.printed.Printed.{Printed}
+
+-- an actor has as many kinds of calls as calls
+kinds_are_calls : (calls : List TraceCall) (actor : ℕ) → length (kinds_of_actor calls actor) ≡ counts_in calls actor
+kinds_are_calls calls actor =
+    length-map (filter (is_of_actor actor) calls) (λ call. kind_of_verb call.verb) ∙ length-filter (is_of_actor actor) calls
 
 -- each actor has replies, for no more calls than it has, and no reply took a hint
 record FitsCalls (input : Input) (replies : List (List Reply)) : Type 0 where
@@ -101,11 +109,28 @@ all_spelled [] each = All-nil IsSpelledPast
 all_spelled (channel ∷ channels) each =
     All-cons IsSpelledPast channel.past (pasts_of channels) (each 0 channel refl) (all_spelled channels (λ n. each (suc n)))
 
+-- the run of calls of an input that were served
+abbrev run_of : {input : Input} {worker : WorkerState} {channels : List ChannelState} {done : List TraceCall} {replies : List (List Reply)}
+    → IsRunning input worker channels done replies → Run
+run_of {input} {worker} {channels} {done} {replies} running =
+    run_of_input input running.starts replies (pasts_of channels) (counted_at_end input.head input.channels)
+
+-- its calls are numbered and have their data
+has_calls : {input : Input} {worker : WorkerState} {channels : List ChannelState} {done : List TraceCall} {replies : List (List Reply)}
+    (running : IsRunning input worker channels done replies) → HasCalls input.head (run_of running)
+has_calls running = record {
+  numbered = running.is_served_from.numbered;
+  have_data = running.is_served_from.have_data;
+  same_bytes = running.is_served_from.same_bytes;
+  as_many_actors = running.served.has_served.as_many_actors;
+}
+
 -- what the channels of a run have by themselves
 hold : {input : Input} {worker : WorkerState} {channels : List ChannelState} {done : List TraceCall} {replies : List (List Reply)}
     (running : IsRunning input worker channels done replies)
-    → ChannelsHold input running.starts (pasts_of channels) (counted_at_end input.head input.channels)
+    → ChannelsHold input.head (run_of running)
 hold {input} {worker} {channels} running = record {
+  as_many_pasts = running.served.as_many;
   are_pasts =
       all_channels (λ run. IsPastOf run.start (contents_in input) run.past) running.starts channels
       (λ n start channel has_start has_channel. (running.are_channels n start channel has_start has_channel).stands.is_past);
@@ -114,7 +139,7 @@ hold {input} {worker} {channels} running = record {
       (λ n start channel has_start has_channel. (running.are_channels n start channel has_start has_channel).has_room);
   are_counted =
       all_counted input.head input.channels running.starts channels
-      (as_many_starts input.head 0 input.channels running.starts running.served.is_served_from.are_starts)
+      (as_many_starts input.head 0 input.channels running.starts running.is_served_from.are_starts)
       (sym (length-map channels (λ (channel : ChannelState). channel.past)) ∙ running.served.as_many)
       (λ n start channel has_start has_channel. (running.are_channels n start channel has_start has_channel).counts);
   are_spelled = spelled_histories (pasts_of channels) few (all_spelled channels each);
@@ -134,12 +159,6 @@ hold {input} {worker} {channels} running = record {
         let short = of.short in
         let high = of.stands.is_past.is_start.limit_high in
         record { spelled = of.spelled; short = omega (arith, short, high) }
-
--- the run of calls of an input that were served
-abbrev run_of : {input : Input} {worker : WorkerState} {channels : List ChannelState} {done : List TraceCall} {replies : List (List Reply)}
-    → IsRunning input worker channels done replies → Run
-run_of {input} {worker} {channels} {done} {replies} running =
-    run_of_input input running.starts replies (pasts_of channels) (counted_at_end input.head input.channels)
 
 is_run_of : {input : Input} {worker : WorkerState} {channels : List ChannelState} {done : List TraceCall} {replies : List (List Reply)}
     (running : IsRunning input worker channels done replies) → IsRunOf input (run_of running)
@@ -161,13 +180,17 @@ record IsOfRun (input : Input) (channels : List ChannelState) (replies : List (L
 is_of_run : (input : Input) (worker : WorkerState) (channels : List ChannelState) (replies : List (List Reply)) (stop : Option (ℕ × ℕ))
     → LeadsTo input worker channels replies stop → IsOfRun input channels replies stop
 is_of_run input worker channels replies None running =
-    let holds : HoldsOfRun input (run_of running) =
-    served_runs_hold input running.starts replies (pasts_of channels) (counted_at_end input.head input.channels) running.served (hold running) in
+    let served = running.served.has_served in
+    let holds : IsHeadlineOfWhole input.head (run_of running) =
+    serial_runs_hold input.head (run_of running) running.served.hints (has_calls running) (hold running) served.is_serial in
     record {
       fits = record {
-        as_many_actors = running.served.as_many_actors;
-        few = λ actor low. omega (arith, holds.as_many_replies actor low);
-        none_taken = holds.none_taken;
+        as_many_actors = served.as_many_actors;
+        few = λ actor low.
+            let many = served.as_many_replies actor low in
+            let kinds = kinds_are_calls input.calls.calls actor in
+            omega (arith, many, kinds);
+        none_taken = running.served.none_taken;
       };
       run = run_of running;
       is_run = is_run_of running;
@@ -177,11 +200,24 @@ is_of_run input worker channels replies None running =
     }
 is_of_run input worker channels replies (Some stop) stopped =
     let running = stopped.running in
-    let holds : HoldsOfStop input (run_of running) stop.0 stop.1 =
-    served_runs_stop input running.starts stopped.done replies (pasts_of channels) (counted_at_end input.head input.channels) stopped.call
-    stop.0 stop.1 running.served stopped.stops (hold running) in
+    let served = running.served.has_served in
+    let holds : IsHeadlineOfStop input.head (run_of running) stop.0 stop.1 =
+    served_fronts_stop input.head (run_of running) running.served.hints running.served.hints stop.0 stop.1 stopped.done stopped.rest stopped.call
+    (has_calls running) (hold running) stopped.are_calls served
+    (first_steps_are_cut (contents_in input) running.starts (pasts_of channels) running.served.hints (hints_in replies - most_hints)
+    stopped.call stop.0 stop.1 stopped.stops) in
     record {
-      fits = record { as_many_actors = running.served.as_many_actors; few = holds.few_replies; none_taken = holds.none_taken };
+      fits = record {
+        as_many_actors = served.as_many_actors;
+        few = λ actor low.
+            let many = served.as_many_replies actor low in
+            let kinds = kinds_are_calls input.calls.calls actor in
+            let grow = counts_grow stopped.done (stopped.call ∷ stopped.rest) actor in
+            let all : counts_in input.calls.calls actor ≡ counts_in (stopped.done ++ stopped.call ∷ stopped.rest) actor =
+            ap (λ calls. counts_in calls actor) stopped.are_calls in
+            omega (arith, many, kinds, grow, all);
+        none_taken = running.served.none_taken;
+      };
       run = run_of running;
       is_run = is_run_of running;
       headline = holds.headline;

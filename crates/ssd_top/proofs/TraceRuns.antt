@@ -8,9 +8,9 @@ use Rattle.std.proofs.lemmas.Option.{get_or_from_slice_get, slice_get-get_or, sl
 use Rattle.chan_calls.specs.Workers.{WorkerState}
 use Rattle.chan_state.specs.ChannelState.{ChannelState}
 use Rattle.ssd_histories.specs.CallsInOrder.{AreNumberedAfter}
-use Rattle.run_laws.specs.ServedRuns.{with_reply}
-use Rattle.run_laws.proofs.NumberedCalls.{numbered_next}
-use Rattle.run_laws.proofs.ServedOrder.{one_hint}
+use Rattle.run_laws.specs.SerialRuns.{with_reply}
+use Rattle.serial_laws.proofs.NumberedTags.{numbered_back}
+use Rattle.run_laws.proofs.QueuedHints.{one_hint}
 use Rattle.ssd_formats.specs.Input.{Input}
 use Rattle.ssd_formats.specs.RunText.{is_hinted}
 use Rattle.ssd_geo.specs.declared.reply.Reply.{Reply}
@@ -115,12 +115,12 @@ module _ (worker : WorkerState) (old : List ChannelState) (trace : Trace) where
         let running = runs begins.input begins.is_trace begins.running in
         let numbered =
         subst (λ list. AreNumberedAfter begins.input.calls.actors [] list)
-        (split begins.input begins.is_trace) running.served.is_served_from.numbered in
+        (split begins.input begins.is_trace) running.is_served_from.numbered in
         let number =
-        numbered_next begins.input.calls.actors [] (take n trace.calls) call
-        (drop (suc n) trace.calls) numbered in
+        (numbered_back begins.input.calls.actors [] (take n trace.calls)
+        (call ∷ drop (suc n) trace.calls) numbered).0 in
         let is_actor = number.is_actor in
-        let many = running.served.as_many_actors in
+        let many = running.served.has_served.as_many_actors in
         omega (arith, is_actor, many)
 
     -- served, it leads the run on

@@ -1,16 +1,18 @@
 -- What holds of a worker and its channels while a trace is served, and when does a run stop before
--- its end? The channels stand for starts of the input and for the data of its writes, and their
--- pasts are those of a run whose calls so far were served.
+-- its end? The calls so far were served one after the other, and each channel stands for its start,
+-- for the data of the input's writes and for its past.
 use Rattle.std.specs.Prelude.{ℕ, ◌≡◌, ◌^◌, ◌/◌, ◌≤◌, ◌<◌, ⊤, true, IsTrue, List, [], ◌∷◌, ◌++◌, All, length, map, replicate, slice_get, Some}
 use Rattle.std.specs.List.{list_all}
 use Rattle.chan_calls.specs.Workers.{WorkerState, WorksFor}
 use Rattle.chan_state.specs.ChannelState.{ChannelState, StandsFor}
 use Rattle.run_laws.specs.Headline.{CountsAll}
-use Rattle.run_laws.specs.ServedRuns.{contents_in, IsServedRun, with_reply}
+use Rattle.run_laws.specs.Serials.{HasSmallSerials}
+use Rattle.run_laws.specs.SerialRuns.{with_reply}
+use Rattle.run_laws.specs.ServedRuns.{contents_in, IsServedFrom, IsUndrainedRun}
 use Rattle.run_laws.specs.Starts.{starts_of}
 use Rattle.run_laws.specs.StoppedRuns.{StopsAt}
 use Rattle.ssd_top.specs.Handed.{handed_in, history_limit, no_faults}
-use Rattle.run_laws.specs.WrittenRoom.{HasBlankBlocks}
+use Rattle.run_laws.specs.WrittenRoom.{HasBlankBlocks, HasWrites}
 use Rattle.ssd_formats.specs.HistoryText.{is_spelled_entry}
 use Rattle.ssd_geo.specs.Shape.{sizes_of}
 use Rattle.ssd_formats.specs.Input.{Input}
@@ -62,7 +64,9 @@ pub record IsRunning (input : Input) (worker : WorkerState) (channels : List Cha
       starts ≡ starts_of worker.shape input.head history_limit input.channels
       (handed_in input.head input.channels)
   pub sizes_are : sizes_of worker.shape ≡ input.head.sizes
-  pub served : IsServedRun input starts done replies (pasts_of channels)
+  pub is_served_from : IsServedFrom input starts
+  pub served :
+      IsUndrainedRun (contents_in input) starts input.calls.actors done replies (pasts_of channels)
   pub are_channels :
       (n : ℕ) (start : Start) (channel : ChannelState) → slice_get starts n ≡ Some start →
       slice_get channels n ≡ Some channel → IsChannelOf input worker start channel
@@ -70,7 +74,9 @@ pub record IsRunning (input : Input) (worker : WorkerState) (channels : List Cha
   pub few_actors : input.calls.actors ≤ 32
   pub few_calls : length input.calls.calls ≤ 2 ^ 20
   pub fits : All (λ call. FitsDrive worker.shape (length channels) call.verb) input.calls.calls
+  pub serials : All (λ start. HasSmallSerials start.base) starts
   pub blank : All (λ start. HasBlankBlocks start.base) starts
+  pub writes : HasWrites (length starts) done (pasts_of channels)
   pub has_room : fits_drive input ≡ true
   pub all_served : IsTrue (are_served input.calls.calls)
 
@@ -96,9 +102,11 @@ GoesOn worker old new call reply =
 pub record HasStopped (input : Input) (worker : WorkerState) (channels : List ChannelState)
     (replies : List (List Reply)) (channel entries : ℕ) : Type 0 where
   pub done : List TraceCall
+  pub rest : List TraceCall
   pub call : TraceCall
+  pub are_calls : input.calls.calls ≡ done ++ call ∷ rest
   pub running : IsRunning input worker channels done replies
-  pub stops : StopsAt input running.starts done (pasts_of channels) call channel entries
+  pub stops : StopsAt running.starts (pasts_of channels) call channel entries
 
 -- whatever run it was the next call of, that run has stopped there, with these channels
 abbrev pub StopsInHistory : WorkerState → List ChannelState → List ChannelState → TraceCall →

@@ -1,7 +1,8 @@
 // The calls of a trace, served one after the other.
 ghost use Rattle.std.specs.Prelude.{◌≡◌, ◌≤◌, ◌<◌, ◌/◌, [], IfOk, IsTrue, OnOk, Some, length, map, replicate};
 ghost use Rattle.chan_calls.specs.Calls.{reply_of};
-ghost use Rattle.run_laws.specs.ServedRuns.{channel_of, with_reply};
+ghost use Rattle.run_laws.specs.SerialRuns.{with_reply};
+ghost use Rattle.run_laws.specs.ServedRuns.{channel_of};
 ghost use Rattle.ssd_formats.specs.RunText.{is_hinted};
 ghost use Rattle.ssd_top.specs.ChannelCalls.{IfHistoryFull, MayServe, MayUse, MayWrite};
 ghost use Rattle.ssd_top.specs.ChannelCalls.{IsReadRefused, IsRefusedOn, IsWriteRefused};

@@ -4,7 +4,7 @@ use Rattle.std.proofs.lemmas.List.{length-map}
 use Rattle.ssd_geo.specs.declared.reply.Reply.{Reply}
 use Rattle.ssd_histories.specs.SerialHistory.{most_hints}
 use Rattle.run_laws.specs.ServedRuns.{hints_in}
-use Rattle.run_laws.proofs.ServedOrder.{hints_with_more}
+use Rattle.run_laws.proofs.QueuedHints.{hints_with_more}
 use Rattle.ssd_top.specs.Running.{HasStopped, RunsTo}
 use Rattle.ssd_top.specs.Workers.{settings}
 use Rattle.ssd_top.proofs.TraceRuns.{actor_is_low, as_long, hint_counted, is_next, one_at_most, one_more_call, runs_stop, runs_whole}

@@ -1,36 +1,15 @@
--- Calls that were served one after the other, with one more at the end: they stay so when the replies grow, and the queue of
--- hints goes on with the hint of the new call's reply.
-use Rattle.std.proofs.Common.{ℕ, ◌≡◌, ◌<◌, ◌≤◌, ◌+◌, ◌-◌, Bool, true, false, cond, List, [], ◌∷◌, ◌++◌, length, Some, refl, ap, ◌∙◌, arith, length-append, ltb-true}
+-- The queue of hints goes on with the hint of a new call's reply, and so does the count of the hints of all replies.
+use Rattle.std.proofs.Common.{ℕ, ◌≡◌, ◌<◌, ◌≤◌, ◌+◌, ◌-◌, Bool, true, false, cond, List, [], ◌∷◌, ◌++◌, length, refl, ap, ◌∙◌, arith, length-append, ltb-true}
 use Rattle.std.specs.Prelude.{count_by, nat_lt, slice_index_or}
 use Rattle.std.proofs.lemmas.Bool.Decides.{nat_tests}
 use Rattle.std.proofs.lemmas.List.Sums.{sum_by-set, sum_by_push}
-use Rattle.ssd_histories.specs.CallsInOrder.{ChannelRun, reply_to}
+use Rattle.ssd_histories.specs.CallsInOrder.{ChannelRun}
 use Rattle.ssd_formats.specs.RunText.{is_hinted}
-use Rattle.ssd_histories.specs.SerialHistory.{AreServed, SerialCall, SerialState, most_hints, none_left, serves, with_hint}
+use Rattle.ssd_histories.specs.SerialHistory.{SerialState, most_hints, with_hint}
 use Rattle.ssd_geo.specs.declared.reply.Reply.{Reply}
-use Rattle.ssd_geo.specs.declared.tag.Tag.{Tag}
-use Rattle.ssd_geo.specs.declared.trace.TraceCall.{TraceCall}
-use Rattle.run_laws.specs.ServedRuns.{hints_in, with_reply}
+use Rattle.run_laws.specs.SerialRuns.{with_reply}
+use Rattle.run_laws.specs.ServedRuns.{hints_in}
 use Rattle.run_laws.proofs.MadeCalls.{with_hint_of}
-
--- they were served with replies that have each of theirs
-pub served_with : (contents : List (Tag × List ℕ)) (replies more : List (List Reply)) (channels : ℕ) →
-    ((tag : Tag) (held : Reply) → reply_to replies tag ≡ Some held → reply_to more tag ≡ Some held) →
-    (calls : List TraceCall)
-    (before after : SerialState) → AreServed contents replies channels calls before after → AreServed contents more channels calls before after
-served_with contents replies more channels keeps calls before after none_left = none_left
-served_with contents replies more channels keeps calls before after (serves {call = first} {calls = rest} {reply = reply} {between = between} is made left) =
-    serves {reply = reply} {between = between} (keeps first.tag reply is) made (served_with contents replies more channels keeps rest between after left)
-
--- and one more after them
-pub served_then : (contents : List (Tag × List ℕ)) (replies : List (List Reply)) (channels : ℕ)
-    (call : TraceCall) (reply : Reply) (last : SerialState) → reply_to replies call.tag ≡ Some reply →
-    (calls : List TraceCall)
-    (before after : SerialState) → AreServed contents replies channels calls before after → SerialCall contents channels call.tag reply call.verb after last → AreServed contents replies channels (calls ++ call ∷ []) before last
-served_then contents replies channels call reply last there calls before after none_left made =
-    serves {reply = reply} {between = last} there made none_left
-served_then contents replies channels call reply last there calls before after (serves {calls = rest} {reply = held} {between = between} is first left) made =
-    serves {reply = held} {between = between} is first (served_then contents replies channels call reply last there rest between after left made)
 
 -- the hints of replies with one more
 abbrev pub one_hint : Reply → ℕ
