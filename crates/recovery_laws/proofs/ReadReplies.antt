@@ -43,7 +43,7 @@ only_given true xs ys is = ap {B = List ℕ} (λ (option : Option (List ℕ)). u
 only_given false xs ys is = absurd (cc)
 
 -- the data bytes of a word that has them stand behind its head
-bytes_given : (payload_length data_length serial row : ℕ) (word data_bytes : List ℕ) → data_of_word payload_length data_length serial row word ≡ Some data_bytes →
+pub bytes_given : (payload_length data_length serial row : ℕ) (word data_bytes : List ℕ) → data_of_word payload_length data_length serial row word ≡ Some data_bytes →
     bytes_of_word data_length word ≡ data_bytes
 bytes_given payload_length data_length serial row word data_bytes is =
     only_given (starts_with nat_eq word (head_of_page serial row) && are_zeros (slice_range word (16 + data_length) payload_length)) (slice_range word 16 (16 + data_length)) data_bytes is

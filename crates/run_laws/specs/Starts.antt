@@ -4,7 +4,8 @@
 use Rattle.std.specs.Prelude.{ℕ, ◌≡◌, ◌+◌, List, [], ◌∷◌, Option}
 use Rattle.ssd_histories.specs.Start.{Start}
 use Rattle.ssd_formats.specs.ImageContents.{ChannelImage, blocks_of_saved, cells_of_saved, sum_of_saved}
-use Rattle.ssd_formats.specs.ImageHead.{Head, sizes_of}
+use Rattle.ssd_formats.specs.ImageHead.{Head}
+use Rattle.ssd_geo.specs.Shape.{sizes_of}
 use Rattle.ssd_geo.specs.declared.base.ChannelBase.{ChannelBase}
 use Rattle.ssd_geo.specs.declared.policy_view.PolicyView.{PolicyView}
 use Rattle.ssd_geo.specs.declared.shape.Shape.{Shape}

@@ -42,7 +42,6 @@ use Rattle.ssd_top.specs.RoomForTrace.{fits_drive}
 use Rattle.ssd_top.specs.Running.{FitsDrive, IsChannelOf, IsRunning, pasts_of}
 use Rattle.ssd_top.proofs.BlankBlocks.{has_blank_blocks}
 use Rattle.ssd_top.proofs.SameSizes.{same_shape}
-use Rattle.ssd_top.proofs.WordsGiveData.{words_give_data}
 
 -- channels from this number on have begun
 abbrev AreBegunFrom : Head → ℕ → List ChannelState → Type 0

@@ -28,5 +28,4 @@ pub mod ServedVerbs
 pub mod SmallBytes
 pub mod StopCounts
 pub mod TraceRuns
-pub mod WordsGiveData
 pub mod ZeroWords

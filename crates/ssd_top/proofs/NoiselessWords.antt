@@ -13,6 +13,7 @@ use Rattle.ssd_geo.specs.Shape.{sizes_of}
 use Rattle.ssd_geo.specs.declared.base.ChannelBase.{ChannelBase}
 use Rattle.run_laws.specs.FirstSenses.{ReadsBack, WordIsRead}
 use Rattle.ssd_histories.specs.LastWrites.{IsData}
+use Rattle.recovery_laws.proofs.ReadReplies.{bytes_given}
 use Rattle.recovery_laws.proofs.WordData.{whole_bytes, words_have_data}
 use Rattle.run_laws.proofs.ReadPages.{pages_are_read}
 use Rattle.ssd_top.specs.Noiseless.{IsNoiseless, NoiselessPagesAreReadAtOnce}
@@ -20,7 +21,6 @@ use Rattle.ssd_top.proofs.CheckedWords.{failed_checks-codeword, sum_none}
 use Rattle.ssd_top.proofs.FirstSense.{decode_codeword}
 use Rattle.ssd_top.proofs.NoiselessCells.{sensed-fresh}
 use Rattle.ssd_top.proofs.PageCodes.{all_found, bytes_again, code_at, code_back, code_long, only, word_small}
-use Rattle.ssd_top.proofs.WordsGiveData.{bytes_given}
 
 is_some_of : {A : Type 0} (found : Option A) (x : A) → found ≡ Some x → is_some found ≡ true
 is_some_of found x is = rw is refl
