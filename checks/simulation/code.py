@@ -1,4 +1,5 @@
-"""A quasi-cyclic code, and its serial decoder. A word is a whole number: its bit i is variable i."""
+"""A quasi-cyclic code, its serial decoder, and the pages that hold several of its codewords. A word is a
+whole number: its bit i is variable i, or bit i of the page."""
 
 
 def told(given):
@@ -58,21 +59,14 @@ class Code:
             message |= block << j * self.lifting
         return message
 
-    def message_of(self, word):
-        return (word & (1 << self.message_bits) - 1).to_bytes(self.message_bits // 8, "little")
-
     def failed_checks(self, word):
         return sum(total.bit_count() for total in self.row_sums(word, len(self.base_rows[0])))
 
-    def decode(self, values, iterations):
-        """The number of iterations until the hard decision is a codeword, and the codeword, or None."""
+    def rounds(self, values):
+        """The numbers of the variables: first the given values, then what they are after each iteration."""
         totals, answers = list(values), [[0] * len(row) for row in self.check_rows]
-        for done in range(iterations + 1):
-            word = int("".join(["1" if p < 0 else "0" for p in reversed(totals)]), 2)
-            if self.failed_checks(word) == 0:
-                return done, word
-            if done == iterations:
-                return None
+        while True:
+            yield totals
             for row, edges in zip(self.check_rows, answers):
                 given = []
                 for v, e in zip(row, edges):
@@ -81,3 +75,59 @@ class Code:
                 edges[:] = told(given)
                 for v, q, e in zip(row, given, edges):
                     totals[v] = q + e
+
+    def decode(self, values, iterations):
+        """The number of iterations until the hard decision is a codeword, and the codeword, or None."""
+        for done, totals in zip(range(iterations + 1), self.rounds(values)):
+            word = int("".join(["1" if p < 0 else "0" for p in reversed(totals)]), 2)
+            if self.failed_checks(word) == 0:
+                return done, word
+        return None
+
+
+class Pages:
+    """Pages of several codewords: first the message part of each, and after these the parity of each."""
+
+    def __init__(self, code, count):
+        self.code, self.count = code, count
+        self.bits, self.payload_bits = count * code.bits, count * code.message_bits
+        self.parity_bits = code.bits - code.message_bits
+
+    def places_of(self, part):
+        """Where in a page the message part and the parity of a codeword begin."""
+        return part * self.code.message_bits, self.payload_bits + part * self.parity_bits
+
+    def codewords(self, page):
+        """The words that stand at the places of a page's codewords."""
+        words = []
+        for part in range(self.count):
+            message, parity = self.places_of(part)
+            words.append(page >> message & (1 << self.code.message_bits) - 1
+                         | (page >> parity & (1 << self.parity_bits) - 1) << self.code.message_bits)
+        return words
+
+    def shares(self, values):
+        """The values of each codeword's variables, from one value for each bit of the page."""
+        shares = []
+        for part in range(self.count):
+            message, parity = self.places_of(part)
+            shares.append(values[message:message + self.code.message_bits]
+                          + values[parity:parity + self.parity_bits])
+        return shares
+
+    def page_of(self, codewords):
+        page = 0
+        for part, word in enumerate(codewords):
+            message, parity = self.places_of(part)
+            page |= (word & (1 << self.code.message_bits) - 1) << message
+            page |= word >> self.code.message_bits << parity
+        return page
+
+    def word_of(self, payload):
+        """The page whose message parts are those of a payload, each with its parity."""
+        size = self.code.message_bits
+        parts = [payload >> part * size & (1 << size) - 1 for part in range(self.count)]
+        return self.page_of([self.code.word_of(part) for part in parts])
+
+    def payload_of(self, page):
+        return (page & (1 << self.payload_bits) - 1).to_bytes(self.payload_bits // 8, "little")

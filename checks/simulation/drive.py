@@ -2,7 +2,6 @@
 import struct
 from collections import Counter
 
-from .code import Code
 from .random_words import words_of
 
 SOFT_VALUES = (-96, -48, -16, 16, 48, 96)
@@ -32,7 +31,7 @@ class Cells:
 
     def __init__(self, head, channel):
         self.head, self.channel, self.levels = head, channel, {}
-        self.count = head.lifting * head.column_count
+        self.count = head.words * head.lifting * head.column_count
 
     def program(self, place, word):
         head, (die, sb, page) = self.head, place
@@ -58,71 +57,114 @@ class Cells:
 
 
 class Ladder:
-    """One reading of a page by read retry: the senses that it asked, and what it came to."""
+    """One reading of a page by read retry: the senses that it asked, and what it came to. What comes up is
+    counted beside the number of codewords of a page."""
 
-    def __init__(self, head, code, cells, events):
-        self.head, self.code, self.cells, self.events = head, code, cells, events
-        self.asks = []
+    def __init__(self, head, pages, cells, events):
+        self.head, self.pages, self.cells, self.events = head, pages, cells, events
+        self.asks, self.whose = [], "the page"
+
+    def came(self, what, how_often=1):
+        self.events[what, self.head.words] += how_often
 
     def sense(self, place, level):
         self.asks.append((place, level))
         return self.cells.sense(place, level)
 
     def searched(self, place, accepts):
-        """What the read levels and then the soft senses find at a place: rung and word, or None."""
-        failed = []
+        """What the read levels and then the soft senses find at a place: rung and page, or None."""
+        kept, failed, dropped = {}, [], False
         for rung, level in enumerate(self.head.read_levels):
             raw = self.sense(place, level)
-            found = self.code.decode(hard_values(raw, self.code.bits), self.head.iterations)
-            if self.is_accepted(found, accepts):
-                return rung, found[1]
-            failed.append(self.code.failed_checks(raw))
-        centre = failed.index(min(failed))
-        self.events["a later level has the fewest failed checks"] += centre > 0
-        level, step = self.head.read_levels[centre], self.head.soft_step
+            page = self.completed(kept, rung, hard_values(raw, self.pages.bits), accepts)
+            if page is not None and accepts(page):
+                self.came("a page is found after all its kept words were dropped", dropped)
+                return rung, page
+            if page is not None:
+                kept.clear()
+                dropped = True
+            failed.append([self.pages.code.failed_checks(word) for word in self.pages.codewords(raw)])
+        level, step = self.head.read_levels[self.centre(failed, kept)], self.head.soft_step
         senses = [self.sense(place, level + n * step) for n in (-2, -1, 0, 1, 2)]
-        found = self.code.decode(soft_values(senses, self.code.bits), self.head.iterations)
-        if self.is_accepted(found, accepts):
-            return len(self.head.read_levels), found[1]
+        self.came("soft senses go on with what is kept", len(kept) > 0)
+        values = soft_values(senses, self.pages.bits)
+        page = self.completed(kept, len(self.head.read_levels), values, accepts)
+        if page is not None and accepts(page):
+            return len(self.head.read_levels), page
+        self.came("codewords are kept of a page that isn't found", 0 < len(kept) < self.pages.count)
         return None
 
-    def is_accepted(self, found, accepts):
-        if found is None:
-            return False
-        self.events["a word is found after iterations"] += found[0] > 0
-        self.events["a codeword isn't of the page"] += not accepts(found[1])
-        return accepts(found[1])
+    def centre(self, failed, kept):
+        """The first read level at which all codewords together, kept or not, failed the fewest checks."""
+        totals = [sum(counts) for counts in failed]
+        first = totals.index(min(totals))
+        self.came("a later level has the fewest failed checks", first > 0)
+        others = [sum([n for part, n in enumerate(counts) if part not in kept]) for counts in failed]
+        self.came("the codewords that aren't kept failed the fewest checks at another level",
+                  others.index(min(others)) != first)
+        return first
+
+    def completed(self, kept, rung, values, accepts):
+        """Decodes each codeword that has no kept word, and keeps what is found: under the codeword's number
+        the rung and the word. Answers the page where each codeword has a kept word."""
+        shares = self.pages.shares(values)
+        for part, share in enumerate(shares):
+            if part not in kept:
+                found = self.pages.code.decode(share, self.head.iterations)
+                if found is not None:
+                    kept[part] = rung, found[1]
+                    self.came("a word is found after iterations", found[0] > 0)
+        if len(kept) < self.pages.count:
+            return None
+        page = self.pages.page_of([kept[part][1] for part in range(self.pages.count)])
+        self.count_kept(kept, rung, shares, accepts(page))
+        return page
+
+    def count_kept(self, kept, rung, shares, accepted):
+        """Counts what a page of kept words shows, some of which may be from earlier senses."""
+        soft = rung == len(self.head.read_levels)
+        earlier = [part for part in kept if kept[part][0] < rung]
+        if not accepted:
+            self.came("codewords aren't of the page")
+            self.came(f"{'soft' if soft else 'hard'} senses find all codewords of another page")
+            self.came("codewords that different senses found aren't of the page", len(earlier) > 0)
+        elif earlier:
+            self.came(f"{self.whose} is found codeword by codeword")
+            self.came("soft senses find the rest of a page", soft)
+            alone = [self.pages.code.decode(shares[part], self.head.iterations) for part in earlier]
+            self.came("a word is kept that the last sense doesn't give", None in alone)
 
     def recovered(self, place, expected, closed):
-        """The rung and the word of the page at a place, or None where it can't be recovered."""
+        """The rung and the page that was written at a place, or None where it can't be recovered."""
         found = self.searched(place, expected)
         if found is not None:
             kind = "soft senses" if found[0] == len(self.head.read_levels) else "a read level"
-            self.events[f"recovered by {kind if found[0] else 'the first read level'}"] += 1
+            self.came(f"recovered by {kind if found[0] else 'the first read level'}")
             return found
         if not closed:
-            self.events["uncorrectable in an open stripe"] += 1
+            self.came("uncorrectable in an open stripe")
             return None
+        self.whose = "another page of the stripe"
         die, sb, page = place
         total = 0
         for other in range(self.head.dies):
             if other != die:
-                found = self.searched((other, sb, page), lambda word: True)
+                found = self.searched((other, sb, page), lambda page: True)
                 if found is None:
-                    self.events["uncorrectable in a closed stripe: a page has no codeword"] += 1
+                    self.came("uncorrectable in a closed stripe: a page has no codewords")
                     return None
-                self.events["a page of the stripe needed more than one level"] += found[0] > 0
+                self.came("a page of the stripe needed more than one level", found[0] > 0)
                 total ^= found[1]
         if not expected(total):
-            self.events["uncorrectable in a closed stripe: the sum isn't the page"] += 1
+            self.came("uncorrectable in a closed stripe: the sum isn't the page")
             return None
-        self.events["recovered by the stripe"] += 1
+        self.came("recovered by the stripe")
         return len(self.head.read_levels) + 1, total
 
 
 class Channel:
-    def __init__(self, head, code, number, limit, events):
-        self.head, self.code, self.number, self.limit = head, code, number, limit
+    def __init__(self, head, pages, number, limit, events):
+        self.head, self.pages, self.number, self.limit = head, pages, number, limit
         self.events = events
         self.cells = Cells(head, number)
         self.lines, self.kinds = [], Counter()
@@ -165,7 +207,7 @@ class Channel:
     def write(self, tag, row, serial, data):
         self.need_room(1)
         sb, index = self.next_slot()
-        word = self.code.word_of(int.from_bytes(self.start_of(row, serial) + data, "little"))
+        word = self.pages.word_of(int.from_bytes(self.start_of(row, serial) + data, "little"))
         place, parity = self.place_of(sb, index)
         self.cells.program(place, word)
         self.stripe_sum ^= word
@@ -209,18 +251,18 @@ class Channel:
         """The senses and the reply of a read. Until the next write or ageing they stay the same."""
         if row not in self.ladders:
             sb, index, serial = self.rows[row]
-            ladder = Ladder(self.head, self.code, self.cells, self.events)
+            ladder = Ladder(self.head, self.pages, self.cells, self.events)
             start, end = self.start_of(row, serial), 16 + self.head.data_bytes
 
-            def is_the_page(word):
-                payload = self.code.message_of(word)
+            def is_the_page(page):
+                payload = self.pages.payload_of(page)
                 return payload[:16] == start and not any(payload[end:])
 
             place, _ = self.place_of(sb, index)
             found = ladder.recovered(place, is_the_page, self.is_closed(sb, index))
             reply = "uncorrectable"
             if found is not None:
-                reply = f"data {found[0]} {self.code.message_of(found[1])[16:end].hex()}"
+                reply = f"data {found[0]} {self.pages.payload_of(found[1])[16:end].hex()}"
             asks = [f"{die}.{block}.{page} {level}" for (die, block, page), level in ladder.asks]
             self.ladders[row] = asks, reply
         return self.ladders[row]

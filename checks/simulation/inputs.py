@@ -77,8 +77,11 @@ class Head:
 
     def __init__(self, data):
         r = Reader(data)
-        if r.whole(8) != b"SSDIMG01":
+        text = r.whole(8)
+        if text not in (b"SSDIMG01", b"SSDIMG02"):
             image_fault(0, "magic")
+        # The codewords of a page. The first version has no field for them.
+        self.words = r.number("B", 1, 4, lambda n: n != 3) if text == b"SSDIMG02" else 1
         self.channels, self.dies = r.number("B", 1, 8), r.number("B", 3, 8)
         self.superblocks, self.pages = r.number("H", 4, 256), r.number("H", 2, 256)
         self.read_sizes(r)
@@ -97,7 +100,7 @@ class Head:
 
     def read_sizes(self, r):
         lifting, rows = r.number("H", 4, 1024), r.number("B", 3, 16)
-        cells = self.channels * self.dies * self.superblocks * self.pages * lifting
+        cells = self.channels * self.dies * self.superblocks * self.pages * self.words * lifting
 
         def fits(columns):
             whole_bytes = (columns - rows) * lifting % 8 == 0 and columns * lifting % 8 == 0
@@ -107,7 +110,7 @@ class Head:
         self.lifting, self.row_count, self.column_count = lifting, rows, columns
         self.level_count = r.number("B", 1, 16)
         self.iterations = r.number("B", 1, 64)
-        self.data_bytes = r.number("I", 1, (columns - rows) * lifting // 8 - 16)
+        self.data_bytes = r.number("I", 1, self.words * ((columns - rows) * lifting // 8) - 16)
         self.rows = r.number("I", 1, (self.superblocks - 2) * self.slots)
 
     def read_weak(self, r):

@@ -1,7 +1,7 @@
 """What `ssd run` gives for an input: its status, its output and its text on standard error."""
 from collections import Counter
 
-from .code import Code
+from .code import Code, Pages
 from .drive import Channel, HistoryLimit
 from .inputs import Head, Stop, read_trace
 
@@ -29,9 +29,9 @@ class Run:
 
     def __init__(self, head, actors, events):
         self.head, self.events = head, events
-        code = Code(head.lifting, head.base_rows)
+        pages = Pages(Code(head.lifting, head.base_rows), head.words)
         numbers = range(head.channels)
-        self.channels = [Channel(head, code, n, HISTORY_LIMIT, events) for n in numbers]
+        self.channels = [Channel(head, pages, n, HISTORY_LIMIT, events) for n in numbers]
         self.replies = [[] for _ in range(actors)]
         self.writes, self.reads, self.rungs, self.trims = Counter(), Counter(), Counter(), 0
         self.pushed = self.dropped = 0
