@@ -18,6 +18,8 @@ sys.path.insert(0, str(HERE.parent))
 from drive_tools.main import main  # noqa: E402  (the path has to stand first)
 
 SMALL = """\
+version = 1
+
 [sizes]
 channels = 1
 dies = 3

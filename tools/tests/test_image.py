@@ -27,10 +27,25 @@ class MakeTest(ToolTest):
         self.assertEqual(self.small_image().read_bytes(), FIRST_EXAMPLE)
 
     def test_version_2_has_the_number_of_codewords_after_its_text(self):
-        self.write("two.toml", SMALL.replace("rows = 8", "rows = 8\ncodewords = 2").replace("lifting = 64", "lifting = 32"))
+        self.write("two.toml", SMALL.replace("version = 1", "version = 2").replace("rows = 8", "rows = 8\nwords = 2").replace(
+            "lifting = 64", "lifting = 32"))
         self.tool("image", "make", "two.toml", "-o", "two.img")
         changed = b"SSDIMG02\2" + FIRST_EXAMPLE[8:14] + b"\x20" + FIRST_EXAMPLE[15:]
         self.assertEqual((self.folder / "two.img").read_bytes(), changed)
+
+    def test_the_version_is_the_named_one_or_the_default_or_2_for_several_codewords(self):
+        from drive_tools.image.head import DEFAULT_VERSION, MAGICS
+        plain, one, two = SMALL.replace("version = 1\n", ""), "rows = 8\nwords = 1", "rows = 8\nwords = 2"
+        for text, due in ((plain, MAGICS[DEFAULT_VERSION]), (plain.replace("rows = 8", one), MAGICS[DEFAULT_VERSION]),
+                          (plain.replace("rows = 8", two), b"SSDIMG02\2"), ("version = 2\n" + plain, b"SSDIMG02\1"),
+                          (SMALL, b"SSDIMG01\1")):
+            self.write("drive.toml", text)
+            self.tool("image", "make", "drive.toml", "-o", "drive.img")
+            self.assertEqual((self.folder / "drive.img").read_bytes()[:len(due)], due)
+        self.write("bad.toml", SMALL.replace("rows = 8", two))
+        self.refused("image", "make", "bad.toml", tells="bad.toml:10: sizes.words: an image of version 1 has one codeword")
+        self.write("bad.toml", plain.replace("rows = 8", "rows = 8\nwords = 3"))
+        self.refused("image", "make", "bad.toml", tells="bad.toml:9: sizes.words: 3 codewords a page are none of 1, 2, 4")
 
     def test_weak_and_bad_blocks_are_put_in_order(self):
         lists = ("[[weak]]\nchannel = 0\ndie = 2\nsuperblock = 1\nfrom = 4\n[[weak]]\nchannel = 0\ndie = 1\nsuperblock = 3\n"
@@ -70,8 +85,8 @@ class MakeTest(ToolTest):
 class FaultTest(ToolTest):
     def test_a_field_out_of_range_is_named_with_its_line_and_range(self):
         cases = (
-            ("channels = 1", "channels = 9", "bad.toml:2: sizes.channels: 9 isn't in 1 to 8"),
-            ("dies = 3", "dies = 2", "bad.toml:3: sizes.dies: 2 isn't in 3 to 8"),
+            ("channels = 1", "channels = 9", "bad.toml:4: sizes.channels: 9 isn't in 1 to 8"),
+            ("dies = 3", "dies = 2", "bad.toml:5: sizes.dies: 2 isn't in 3 to 8"),
             ("data_bytes = 8", "data_bytes = 9", "sizes.data_bytes: 9 isn't in 1 to 8"),
             ("rows = 8", "rows = 9", "sizes.rows: 9 isn't in 1 to 8"),
             ("rows = 8", "rows = 0", "sizes.rows: 0 isn't in 1 to 8"),
@@ -127,6 +142,18 @@ class ShowTest(ToolTest):
         self.assertRegex(shown, r"-100 to \S+ +1344 #+")
         self.assertIn("after the image: 10 bytes", shown)
 
+    def test_contents_of_version_2_are_shown(self):
+        # Two codewords of half the size: the pages, and so all contents, have the same bytes.
+        image = full_image()
+        self.write("one.img", b"SSDIMG02\1" + image[8:])
+        self.write("two.img", b"SSDIMG02\2" + image[8:14] + b"\x20" + image[15:])
+        first, one, two = (json.loads(self.tool("image", "show", "--json", name)[0]) for name in (
+            self.write("first.img", image), "one.img", "two.img"))
+        self.assertEqual([(shown["version"], shown["words"]) for shown in (first, one, two)], [(1, 1), (2, 1), (2, 2)])
+        for name in ("channels_shown", "histogram", "cells"):
+            self.assertEqual(one[name], first[name])
+            self.assertEqual(two[name], first[name])
+
     def test_contents_are_shown_as_json(self):
         self.write("full.img", full_image())
         values = json.loads(self.tool("image", "show", "--json", "full.img")[0])
@@ -137,10 +164,15 @@ class ShowTest(ToolTest):
         image = full_image()
         cases = ((b"", "byte 0: the text at its beginning: the image ends too early"),
                  (b"SSDIMG03" + image[8:], "neither SSDIMG01 nor SSDIMG02"),
-                 (b"SSDIMG02\3" + image[8:], "byte 8: codewords: 3 is none of 1, 2, 4"),
+                 (b"SSDIMG02\3" + image[8:], "byte 8: words: 3 codewords a page are none of 1, 2, 4"),
                  (image[:9] + b"\2" + image[10:], "byte 9: dies: 2 isn't in 3 to 8"),
                  (image[:200], "byte 200: channel 0, superblock 0, levels: the image ends too early"),
-                 (image[:93] + b"\5" + image[94:], "byte 93: channel 0, superblock 0, state: 5 isn't in 0 to 4"))
+                 (image[:93] + b"\5" + image[94:], "byte 93: channel 0, superblock 0, state: 5 isn't in 0 to 4"),
+                 (image[:52] + b"\x40" + image[53:], "byte 52: base matrix: row 0, column 0: 64 isn't in -1 to 63"),
+                 (image[:88] + b"\1\0\0\3", "byte 91: weak block 0, die: 3 isn't in 0 to 2"),
+                 (image[:88] + b"\2\0" + bytes(16), "byte 98: weak block 1: doesn't come after the one before it"),
+                 (image[:90] + b"\1\0\0\1", "byte 93: factory bad superblock 0, zero byte: 1 isn't in 0 to 0"),
+                 (image[:90] + b"\1\0" + bytes(4), "byte 90: rows beside the factory bad superblocks: 8 isn't in 1 to 4"))
         for data, tells in cases:
             with self.subTest(tells=tells):
                 self.write("bad.img", data)

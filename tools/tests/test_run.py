@@ -106,12 +106,12 @@ class SweepTest(ToolTest):
         self.assertEqual((run.returncode, run.stdout[:13]), (0, b"0,greedy,0,0,"), run.stderr)
 
     def test_wrong_plans_are_refused_before_any_run(self):
-        cases = (("drive = ", "drive = 3 #", "plan.toml: drive: has to be a text"),
+        cases = (("drive = ", "drive = 3 #", "plan.toml:1: drive: has to be a text"),
                  ("small.toml", "none.toml", "none.toml: No such file"),
-                 ("policy = [\"greedy\", \"oldest\"]", "colour = [1]", "values.colour: can't be varied; these can: policy"),
+                 ("policy = [\"greedy\", \"oldest\"]", "colour = [1]", "plan.toml:5: values.colour: can't be varied; these can: policy"),
                  ("levels = [[0], [0, -60]]", "levels = []", "values.levels: has to be a list of at least one value"),
                  ("levels = [[0], [0, -60]]", "spread = [0, 5000]", "cells.spread: 5000 isn't in 0 to 4095 (configuration 1)"),
-                 ("workload = ", "work = ", "plan.toml: work: there is no such field"),
+                 ("workload = ", "work = ", "plan.toml:2: work: there is no such field"),
                  ("make --calls", "bake --calls", "workload: aren't words of `ssdtool trace`"))
         for old, new, tells in cases:
             with self.subTest(new=new):

@@ -4,13 +4,13 @@ import tomllib
 
 from ..faults import InputFault
 from .base_matrix import FAMILIES, SEEDED, check_matrix, matrix_of_family
-from .head import NUMBERS, RANGES, Head, fault_of, fault_of_bad, most_rows
+from .head import DEFAULT_VERSION, NUMBERS, RANGES, WORDS, Head, fault_of, fault_of_bad, fault_of_words, most_rows
 
 # Each field of a description: its section, and what may stand for it where it isn't given.
 REQUIRED = object()
 SECTIONS = {
     "sizes": {"channels": REQUIRED, "dies": REQUIRED, "superblocks": REQUIRED, "pages": REQUIRED, "data_bytes": REQUIRED,
-              "rows": None, "over_provisioning": None, "codewords": 1},
+              "rows": None, "over_provisioning": None, "words": 1},
     "code": {"lifting": REQUIRED, "base_rows": None, "base_columns": None, "iterations": 20, "family": None, "seed": None,
              "weight": 3, "matrix": None},
     "cells": {"erased": REQUIRED, "programmed": REQUIRED, "spread": 0, "seed": 0, "session": 0},
@@ -39,16 +39,20 @@ def line_of(text, section, key=None, which=0):
     return found
 
 
+def read_toml(text, name):
+    """The values of a text in TOML."""
+    try:
+        return tomllib.loads(text)
+    except tomllib.TOMLDecodeError as fault:
+        found = re.search(r"\(at line (\d+)", str(fault))
+        raise InputFault(f"no TOML: {fault}", file=name, line=found and int(found[1])) from None
+
+
 class Description:
     """A description as it was read, with the places of its fields for faults."""
 
     def __init__(self, text, name):
-        self.text, self.name = text, name
-        try:
-            self.values = tomllib.loads(text)
-        except tomllib.TOMLDecodeError as fault:
-            found = re.search(r"\(at line (\d+)", str(fault))
-            raise InputFault(f"no TOML: {fault}", file=name, line=found and int(found[1])) from None
+        self.text, self.name, self.values = text, name, read_toml(text, name)
 
     def fault(self, text, section, key=None, which=0):
         """A fault of a field."""
@@ -201,13 +205,13 @@ def _records(given, head, name):
     return sorted(records)
 
 
-def _version(given, codewords):
-    """The version of the image: 2 where it says so, or where a page has several codewords."""
-    version = given.values.get("version", 1 if codewords == 1 else 2)
+def _version(given, words):
+    """The version of the image: the one that it names, else 2 where a page has several codewords."""
+    version = given.values.get("version", DEFAULT_VERSION if words == 1 else 2)
     if version not in (1, 2) or isinstance(version, bool):
         raise given.fault(f"{version!r} is neither 1 nor 2", None, "version")
-    if version == 1 and codewords != 1:
-        raise given.fault("an image of version 1 has one codeword a page", "sizes", "codewords")
+    if version == 1 and words != 1:
+        raise given.fault("an image of version 1 has one codeword a page", "sizes", "words")
     return version
 
 
@@ -237,10 +241,10 @@ def head_of_description(text, name, changes=()):
         given.change(section, key, value)
     given.check_names()
     head, matrix = Head(), _listed_matrix(given)
-    head.codewords = given.number("sizes", "codewords")
-    if head.codewords not in (1, 2, 4):
-        raise given.fault(f"{head.codewords} is none of 1, 2, 4", "sizes", "codewords")
-    head.version = _version(given, head.codewords)
+    head.words = given.number("sizes", "words")
+    if head.words not in WORDS:
+        raise given.fault(fault_of_words(head.words), "sizes", "words")
+    head.version = _version(given, head.words)
     for number, _ in NUMBERS:
         _set_number(given, head, number, matrix)
     if fault_of_bad(head):

@@ -3,8 +3,13 @@ import struct
 from dataclasses import dataclass, field
 
 from ..faults import InputFault
+from .base_matrix import check_matrix
 
 MAGICS = {1: b"SSDIMG01", 2: b"SSDIMG02"}
+# The version of an image with one codeword a page whose description names none.
+DEFAULT_VERSION = 1
+# How many codewords a page can have.
+WORDS = (1, 2, 4)
 MOST_CELLS = 2 ** 28
 
 # The numbers of the head in the order of the file, each with the form of its bytes.
@@ -24,8 +29,8 @@ RANGES = {
 class Head:
     """What the head of an image says."""
 
-    version: int = 1
-    codewords: int = 1
+    version: int = DEFAULT_VERSION
+    words: int = 1
     channels: int = 1
     dies: int = 3
     superblocks: int = 4
@@ -57,12 +62,12 @@ class Head:
     @property
     def cells_per_page(self):
         """The cells of a page, one for each bit of its codewords."""
-        return self.codewords * self.base_columns * self.lifting
+        return self.words * self.base_columns * self.lifting
 
     @property
     def payload_bytes(self):
         """The bytes of a page's payload: its head, its data and the zeros after them."""
-        return self.codewords * (self.base_columns - self.base_rows) * self.lifting // 8
+        return self.words * (self.base_columns - self.base_rows) * self.lifting // 8
 
     @property
     def cells(self):
@@ -96,6 +101,11 @@ def range_of(name, head):
     if name == "programmed":
         return head.erased + 1, 8191
     return RANGES[name]
+
+
+def fault_of_words(words):
+    """What is wrong with a number of codewords that a page can't have."""
+    return f"{words} codewords a page are none of {', '.join(map(str, WORDS))}"
 
 
 def fault_of_columns(head):
@@ -132,7 +142,7 @@ def head_bytes(head):
     """The bytes of a blank image with this head, which has to be in range."""
     pieces = [MAGICS[head.version]]
     if head.version == 2:
-        pieces.append(bytes([head.codewords]))
+        pieces.append(bytes([head.words]))
     pieces += [struct.pack("<" + form, getattr(head, name)) for name, form in NUMBERS]
     pieces.append(struct.pack(f"<{len(head.levels)}h", *head.levels))
     pieces += [struct.pack(f"<{len(base_row)}h", *base_row) for base_row in head.matrix]
@@ -181,9 +191,9 @@ class HeadReader:
             raise self.fault(f"{magic!r} is neither SSDIMG01 nor SSDIMG02", "the text at its beginning", 0)
         head.version = version[0]
         if head.version == 2:
-            head.codewords = self.numbers("B", "codewords")[0]
-            if head.codewords not in (1, 2, 4):
-                raise self.fault(f"{head.codewords} is none of 1, 2, 4", "codewords", 8)
+            head.words = self.numbers("B", "words")[0]
+            if head.words not in WORDS:
+                raise self.fault(fault_of_words(head.words), "words", 8)
         for name, form in NUMBERS:
             at, (value,) = self.at, self.numbers(form, name)
             setattr(head, name, value)
@@ -197,12 +207,32 @@ class HeadReader:
     def lists_of(self, head):
         """The read levels, the base matrix and the two lists of blocks."""
         head.levels = [self.limited("h", f"read level {n}", *RANGES["level"]) for n in range(head.level_count)]
-        flat = self.numbers(f"{head.base_rows * head.base_columns}h", "base matrix")
-        columns = head.base_columns
+        self.matrix_of(head)
+        head.weak = self.records("weak block", (
+            ("B", "channel", head.channels - 1), ("B", "die", head.dies - 1), ("H", "superblock", head.superblocks - 1),
+            ("I", "from", RANGES["from"][1])))
+        at = self.at
+        head.bad = [(channel, sb) for channel, _, sb in self.records("factory bad superblock", (
+            ("B", "channel", head.channels - 1), ("B", "zero byte", 0), ("H", "superblock", head.superblocks - 1)))]
+        if fault_of_bad(head):
+            raise self.fault(fault_of_bad(head), "rows beside the factory bad superblocks", at)
+
+    def records(self, name, parts):
+        """A list of records in rising order of their first three parts, each with its form, name and greatest value."""
+        found = []
+        for n in range(self.numbers("H", f"number of {name}s")[0]):
+            at = self.at
+            found.append(tuple(self.limited(form, f"{name} {n}, {part}", 0, most) for form, part, most in parts))
+            if n and found[-1][:3] <= found[-2][:3]:
+                raise self.fault("doesn't come after the one before it", f"{name} {n}", at)
+        return found
+
+    def matrix_of(self, head):
+        """The base matrix."""
+        at, columns = self.at, head.base_columns
+        flat = self.numbers(f"{head.base_rows * columns}h", "base matrix")
         head.matrix = [list(flat[i * columns:(i + 1) * columns]) for i in range(head.base_rows)]
-        for n in range(self.numbers("H", "number of weak blocks")[0]):
-            record = self.numbers("BBHI", f"weak block {n}")
-            head.weak.append(record)
-        for n in range(self.numbers("H", "number of factory bad superblocks")[0]):
-            channel, _, sb = self.numbers("BBH", f"factory bad superblock {n}")
-            head.bad.append((channel, sb))
+        try:
+            check_matrix(head.matrix, head.lifting)
+        except InputFault as fault:
+            raise self.fault(fault.text, "base matrix", at) from None

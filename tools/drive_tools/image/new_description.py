@@ -1,4 +1,5 @@
 """A description of a drive to begin with, with a note at each field."""
+from .head import DEFAULT_VERSION
 
 # By name: channels, dies, superblocks, pages, data bytes, lifting size, base rows, base columns, levels apart, spread.
 PRESETS = {
@@ -9,7 +10,7 @@ PRESETS = {
 
 TEXT = """\
 # A drive for ssd. Make its image by: ssdtool image make THIS.toml -o drive.img
-# version = 1  # of the image: 1 or 2; 2 where a page has several codewords
+# version = {version}  # of the image: 1 or 2; 2 where a page has several codewords
 
 [sizes]
 channels = {channels}  # 1 to 8
@@ -18,7 +19,7 @@ superblocks = {superblocks}  # of each channel, 4 to 256
 pages = {pages}  # of each block, 2 to 256
 data_bytes = {data_bytes}  # of a page for the host
 over_provisioning = 50.0  # percent of the host's pages; or 'rows', the host's pages on each channel
-codewords = 1  # of a page: 1, 2 or 4
+words = 1  # codewords of a page: 1, 2 or 4
 
 [code]
 lifting = {lifting}  # size of a block of the parity checks, 4 to 1024
@@ -58,6 +59,7 @@ def new_description(preset, seed):
     """The text of a description of this size, with the seed written in it."""
     channels, dies, superblocks, pages, data_bytes, lifting, base_rows, base_columns, apart, spread = PRESETS[preset]
     text = TEXT.format(
+        version=DEFAULT_VERSION,
         channels=channels, dies=dies, superblocks=superblocks, pages=pages, data_bytes=data_bytes, lifting=lifting,
         base_rows=base_rows, base_columns=base_columns, seed=seed, erased=-apart // 2, programmed=apart // 2, spread=spread,
         less=-apart // 10, least=-apart // 5, soft_step=max(apart // 20, 1))

@@ -9,7 +9,7 @@ def plain_values(head, channels, levels, after):
     """All that is shown, as values that JSON can hold."""
     numbers = {name: getattr(head, name) for name, _ in NUMBERS}
     return {
-        "version": head.version, "codewords": head.codewords, **numbers, "levels": head.levels, "matrix": head.matrix,
+        "version": head.version, "words": head.words, **numbers, "levels": head.levels, "matrix": head.matrix,
         "weak": [list(record) for record in head.weak], "bad": [list(record) for record in head.bad],
         "contents": "full" if head.contents else "blank", "cells": head.cells, "bytes_after": after,
         "channels_shown": [channel_values(channel) for channel in channels],
@@ -33,7 +33,8 @@ def head_lines(head):
     yield f"           {head.slots} data slots a superblock, {head.cells} cells in all"
     yield (f"host       {head.host_pages} pages of {head.data_bytes} bytes, {head.rows} rows a channel,"
            f" over-provisioning {spare:.1f} percent")
-    yield (f"code       {head.codewords} codeword(s) a page, lifting size {head.lifting}, {head.base_rows} base rows,"
+    words = "one codeword" if head.words == 1 else f"{head.words} codewords"
+    yield (f"code       {words} a page, lifting size {head.lifting}, {head.base_rows} base rows,"
            f" {head.base_columns} base columns,")
     yield f"           payload {head.payload_bytes} bytes, at most {head.iterations} iterations"
     yield f"cells      erased {head.erased}, programmed {head.programmed}, spread of noise {head.spread}, seed {head.seed}"
@@ -103,7 +104,7 @@ def description_text(head):
     """A description from which the same head is made again."""
     lines = [f"version = {head.version}", "", "[sizes]"]
     lines += [f"{name} = {getattr(head, name)}"
-              for name in ("channels", "dies", "superblocks", "pages", "data_bytes", "rows", "codewords")]
+              for name in ("channels", "dies", "superblocks", "pages", "data_bytes", "rows", "words")]
     lines += ["", "[code]", f"lifting = {head.lifting}", f"iterations = {head.iterations}", "matrix = ["]
     lines += [f"    {base_row}," for base_row in head.matrix]
     lines += ["]", "", "[cells]"]

@@ -2,16 +2,15 @@
 import itertools
 import os
 import shlex
-import tomllib
 
 from ..faults import InputFault
 from ..image.command import read_text
-from ..image.description import head_of_description
+from ..image.description import head_of_description, line_of, read_toml
 
 # What can be varied: fields of the drive's description, each with its section, and options of the program with their defaults.
 FIELDS = {
     "spread": "cells", "erased": "cells", "programmed": "cells", "seed": "cells", "levels": "reading",
-    "soft_step": "reading", "iterations": "code", "over_provisioning": "sizes", "rows": "sizes"}
+    "soft_step": "reading", "iterations": "code", "over_provisioning": "sizes", "rows": "sizes", "words": "sizes"}
 OPTIONS = {"policy": "greedy", "lanes": 16, "history": 4194304}
 MOST_CONFIGURATIONS = 100_000
 
@@ -38,11 +37,8 @@ class Plan:
     def __init__(self, path):
         self.path = path
         self.directory = os.path.dirname(os.path.abspath(path)) if path != "-" else os.getcwd()
-        text = read_text(path)
-        try:
-            self.values = tomllib.loads(text)
-        except tomllib.TOMLDecodeError as fault:
-            raise InputFault(f"no TOML: {fault}", file=path) from None
+        self.text = read_text(path)
+        self.values = read_toml(self.text, path)
         self.check()
         self.drive = self.beside(self.values["drive"])
         self.drive_text = read_text(self.drive)
@@ -50,7 +46,9 @@ class Plan:
 
     def fault(self, text, field):
         """A fault of a field of the plan."""
-        return InputFault(text, file=self.path, field=field)
+        section, _, key = field.rpartition(".")
+        line = line_of(self.text, section or None, key) or line_of(self.text, field)
+        return InputFault(text, file=self.path, line=line, field=field)
 
     def beside(self, path):
         """A path that is relative to the plan."""
