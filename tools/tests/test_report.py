@@ -85,6 +85,9 @@ class ReportTest(ToolTest):
     def test_a_text_that_is_cut_off_is_counted_as_a_front(self):
         for size in (13, 60, 400, len(RUN) - 1):
             self.assertFalse(self.report(RUN[:size])["whole"])
+        # The first line says how many entries there were; those that are there are counted.
+        front = RUN[:60]
+        self.assertEqual(self.report(front)["channels"][0]["entries"], front.count("\n") - 1)
 
     def test_a_wrong_text_is_told_with_its_line(self):
         cases = (("", "bad.txt:1: isn't what a run prints"), ("hello\n", "bad.txt:1: 'hello' isn't a line"),

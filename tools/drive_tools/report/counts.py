@@ -8,10 +8,15 @@ NOT_OK = frozenset(("full", "readonly", "uncorrectable", "noroom", "failed", "di
 class ChannelCounts:
     """What the history of a channel counts up to."""
 
-    def __init__(self, number, entries):
-        self.number, self.entries = number, entries
+    def __init__(self, number):
+        self.number = number
         self.kinds, self.bad, self.faults, self.looks, self.refused = Counter(), Counter(), Counter(), Counter(), Counter()
         self.parities = 0
+
+    @property
+    def entries(self):
+        """The entries that were read: of a text that is cut off fewer than it says."""
+        return self.kinds.total()
 
     def plain(self, with_parity):
         """The counts as plain values."""
@@ -32,8 +37,8 @@ class ChannelCounts:
 class ActorCounts:
     """What the replies of an actor count up to."""
 
-    def __init__(self, number, calls):
-        self.number, self.calls = number, calls
+    def __init__(self, number):
+        self.number, self.calls = number, 0
         self.replies, self.rungs = Counter(), Counter()
 
     def plain(self):
@@ -57,9 +62,9 @@ class RunCounts:
         self.width = head.dies - 1 if head else None
         self.now = None
 
-    def channel(self, number, count):
+    def channel(self, number, _count):
         """A channel begins."""
-        self.now = ChannelCounts(number, count)
+        self.now = ChannelCounts(number)
         self.channels.append(self.now)
 
     def entry(self, words, _text):
@@ -79,13 +84,14 @@ class RunCounts:
         elif kind == "refused":
             counts.refused[words[4]] += 1
 
-    def actor(self, number, count):
+    def actor(self, number, _count):
         """An actor begins."""
-        self.actors.append(ActorCounts(number, count))
+        self.actors.append(ActorCounts(number))
 
     def reply(self, actor, call, words, text):
         """A reply of the last actor."""
         counts = self.actors[-1]
+        counts.calls += 1
         word = words[1].partition(".")[0]
         counts.replies[word] += 1
         if word == "data":
