@@ -16,7 +16,7 @@ def program():
     return found if os.access(found, os.X_OK) else None
 
 
-@unittest.skipUnless(program(), "the program isn't built (examples/run builds it), so the tour isn't gone")
+@unittest.skipUnless(program(), "the program isn't built (`rt run` in crates/ssd does), so the tour isn't gone")
 class TourTest(ToolTest):
     def test_the_tour_is_gone_to_its_end(self):
         run = subprocess.run([TOUR, self.folder / "out"], capture_output=True, timeout=60,

@@ -17,5 +17,6 @@ def find_program(given):
                 raise InputFault(f"is no program that can be run, as {source} says", file=path)
             return os.path.abspath(path)
     if not os.access(BUILT, os.X_OK):
-        raise InputFault("isn't built: build it by `rt ci` or examples/run, or name a program by --ssd or SSD", file=BUILT)
+        raise InputFault("isn't built: build it by `rt run` in crates/ssd, or name a program by --ssd or SSD, as"
+                         " examples/unproved_ssd, which needs no proof", file=BUILT)
     return str(BUILT)
