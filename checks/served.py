@@ -3,9 +3,9 @@
 plain simulation.
 
 The simulation (`checks/simulation`) is written from the formats and rules of docs/, and shares nothing with
-the program: it reads image and trace with their first faults, and serves writes, reads, trims and ageing on
-a blank drive, with the noise of its cells, the decoder, read retry and the limit of a history. It is itself
-compared with worked examples.
+the program: it reads images of both versions and traces with their first faults, and serves writes, reads,
+trims and ageing on a blank drive, with the noise of its cells, the decoder of each codeword of a page, read
+retry and the limit of a history. It is itself compared with worked examples.
 
 usage: served.py PROGRAM        (prints what differs; exits 0 where nothing does, 1 otherwise)
 """
@@ -15,13 +15,15 @@ import subprocess
 import sys
 from collections import Counter
 
-from simulation import made_inputs
+from simulation import faulty_heads, made_inputs
 from simulation.run import simulated
-from simulation.worked_rows import IMAGE, ROWS, changed, wrong_parts
+from simulation.worked_rows import IMAGE, ROWS, TWO_CODEWORDS, changed, trace, wrong_parts
 
 top = pathlib.Path(__file__).resolve().parent.parent
 
-# What the inputs have to bring up, by the simulation's own count.
+CODEWORDS = (1, 2, 4)
+
+# What the inputs have to bring up for each number of codewords a page, by the simulation's own count.
 NEEDED = [
     "recovered by the first read level",
     "recovered by a read level",
@@ -29,15 +31,30 @@ NEEDED = [
     "recovered by the stripe",
     "a word is found after iterations",
     "codewords aren't of the page",
+    "hard senses find all codewords of another page",
+    "a page is found after all its kept words were dropped",
+    "soft senses find all codewords of another page",
     "a later level has the fewest failed checks",
     "a page of the stripe needed more than one level",
     "uncorrectable in an open stripe",
     "uncorrectable in a closed stripe: a page has no codewords",
     "uncorrectable in a closed stripe: the sum isn't the page",
-    "hints pushed",
-    "hints dropped",
-    "history limit",
 ]
+
+# The same, where a page has several codewords.
+NEEDED_OF_SEVERAL = [
+    "the page is found codeword by codeword",
+    "another page of the stripe is found codeword by codeword",
+    "a word is kept that the last sense doesn't give",
+    "codewords that different senses found aren't of the page",
+    "the codewords that aren't kept failed the fewest checks at another level",
+    "soft senses go on with what is kept",
+    "soft senses find the rest of a page",
+    "codewords are kept of a page that isn't found",
+]
+
+# The same, at any number of codewords.
+NEEDED_ONCE = ["hints pushed", "hints dropped", "history limit"]
 
 # Whole traces, wrong or at the edge of being so.
 TRACES = [
@@ -85,7 +102,7 @@ class Check:
 
     def rows(self):
         self.wrong += wrong_parts()
-        for what, given, *due in ROWS:
+        for what, given, *due in ROWS + faulty_heads.ROWS:
             if simulated(given, Counter()) != tuple(due):
                 self.wrong.append(f"the simulation differs from the worked example: {what}")
             self.expect(what, ["run"], given, *due)
@@ -105,6 +122,13 @@ class Check:
                 other = made[:at] + bytes([made[at] ^ bit]) + made[at + 1:]
                 self.expect_simulated(f"byte {at} changed by {bit:#x}", other)
 
+    def two_codewords(self):
+        """The example on pages of two codewords, with one bit of its image changed."""
+        calls = trace("0 write 5 x0102", "0 read 5")
+        for at in range(len(TWO_CODEWORDS)):
+            image = changed(at, bytes([TWO_CODEWORDS[at] ^ 1]), TWO_CODEWORDS)
+            self.expect_simulated(f"byte {at} of two codewords changed", image + calls)
+
     def tables(self):
         for text in TRACES + ["trace 1 1\n" + lines for lines in LINES]:
             self.expect_simulated(f"the trace {text[:60]!r}", IMAGE + text.encode())
@@ -121,16 +145,18 @@ class Check:
         plain = ["write", "write", "read", "read", "trim"]
         aging = ["write"] * 3 + ["read"] * 5 + ["trim", "age", "age"]
         losing = ["write"] + ["read"] * 6 + ["age"] * 2
+        tearing = ["write"] * 2 + ["read"] * 3 + ["age"]
         kinds = [
             ("quiet", made_inputs.quiet_image, plain, [0, 3, 12, 30], 200),
-            ("noisy", made_inputs.noisy_image, aging, [10, 20, 30], 250),
-            ("unchecked", made_inputs.unchecked_image, aging, [10, 20], 50),
-            ("lossy", made_inputs.lossy_image, losing, [15, 25], 60),
-            ("wide", made_inputs.wide_image, aging, [10, 20, 30], 40),
+            ("noisy", made_inputs.noisy_image, aging, [10, 20, 30], 225),
+            ("unchecked", made_inputs.unchecked_image, aging, [10, 20], 75),
+            ("lossy", made_inputs.lossy_image, losing, [15, 25], 75),
+            ("torn", made_inputs.torn_image, tearing, [10, 20], 105),
+            ("wide", made_inputs.wide_image, aging, [10, 20, 30], 45),
         ]
         for kind, image_of, verbs, lengths, count in kinds:
             for n in range(count):
-                image = image_of(rng)
+                image = image_of(rng, CODEWORDS[n % len(CODEWORDS)])
                 given = image + made_inputs.trace(rng, image, rng.choice(lengths), verbs)
                 if n % 4 == 3:
                     given = made_inputs.damaged(rng, given)
@@ -158,12 +184,16 @@ class Check:
 check = Check(sys.argv[1])
 check.rows()
 check.example()
+check.two_codewords()
 check.tables()
 check.random_drives()
 check.long_histories()
 check.words_and_devices()
-check.wrong += [f"never came up: {what}" for what in NEEDED
-                if not check.events[what] and not check.events[what, 1]]
+check.wrong += [f"never came up: {what}" for what in NEEDED_ONCE if not check.events[what]]
+for words in CODEWORDS:
+    needed = NEEDED + (NEEDED_OF_SEVERAL if words > 1 else [])
+    check.wrong += [f"never came up with {words} codewords a page: {what}"
+                    for what in needed if not check.events[what, words]]
 for line in check.wrong[:40]:
     print(line)
 sys.exit(1 if check.wrong else 0)

@@ -8,7 +8,7 @@ from .inputs import Head
 class Drive:
     """What an image of a blank drive says, written by `image`."""
 
-    channels, dies, superblocks, pages = 1, 3, 4, 2
+    words, channels, dies, superblocks, pages = 1, 1, 3, 4, 2
     lifting, base_rows, message_columns, iterations = 8, 3, 17, 1
     data_bytes, rows, seed, session = 1, 1, 0, 0
     erased, programmed, spread, soft_step = -100, 100, 0, 10
@@ -16,18 +16,22 @@ class Drive:
     # The share of zero blocks among the message columns, and the columns that have nothing else.
     zero_blocks, unchecked = 0.5, ()
 
+    def __init__(self, words=1):
+        """A drive whose pages have this many codewords."""
+        self.words = words
+
     def choose_sizes(self, rng, liftings, most_dies=5):
         self.channels, self.dies = rng.randint(1, 3), rng.randint(3, most_dies)
         self.superblocks, self.pages = rng.randint(4, 6), rng.randint(2, 4)
         self.lifting, self.base_rows = rng.choice(liftings), rng.choice([3, 4, 5])
-        least = -(-17 * 8 // self.lifting)
+        least = -(-17 * 8 // (self.words * self.lifting))
         while True:
-            self.message_columns = rng.randint(least, least + 5)
+            self.message_columns = rng.randint(least, least + 1 + 4 // self.words)
             columns = self.base_rows + self.message_columns
             if self.message_columns * self.lifting % 8 == 0 and columns * self.lifting % 8 == 0:
                 break
             self.base_rows = rng.choice([3, 4, 5])
-        self.data_bytes = rng.randint(1, self.message_columns * self.lifting // 8 - 16)
+        self.data_bytes = rng.randint(1, self.words * self.message_columns * self.lifting // 8 - 16)
         if self.superblocks > 4 and rng.random() < 0.3:
             self.bad = [(rng.randrange(self.channels), rng.randrange(self.superblocks))]
         fewest = self.superblocks - 2 - len(self.bad)
@@ -49,9 +53,10 @@ class Drive:
 
     def image(self, rng):
         numbers = [*self.read_levels, *self.base_matrix(rng)]
-        head = struct.pack(
-            "<8sBBHHHBBBBIIQIhhHH",
-            b"SSDIMG01", self.channels, self.dies, self.superblocks, self.pages,
+        # The first version has no field for the codewords of a page.
+        first = self.words == 1 and rng.random() < 0.5
+        head = (b"SSDIMG01" if first else struct.pack("<8sB", b"SSDIMG02", self.words)) + struct.pack(
+            "<BBHHHBBBBIIQIhhHH", self.channels, self.dies, self.superblocks, self.pages,
             self.lifting, self.base_rows, self.base_rows + self.message_columns,
             len(self.read_levels), self.iterations, self.data_bytes, self.rows,
             self.seed, self.session, self.erased, self.programmed, self.spread, self.soft_step)
@@ -60,9 +65,9 @@ class Drive:
         return head + struct.pack(f"<{len(numbers)}h", *numbers) + lists + b"\0"
 
 
-def quiet_image(rng):
+def quiet_image(rng, words):
     """A drive without noise, whose first read level tells the bits apart."""
-    drive = Drive()
+    drive = Drive(words)
     drive.choose_sizes(rng, [8, 16, 20, 40, 64])
     drive.iterations, drive.soft_step = rng.randint(1, 64), rng.randint(1, 2047)
     drive.erased = rng.randint(-300, 0)
@@ -72,11 +77,12 @@ def quiet_image(rng):
     return drive.image(rng)
 
 
-def noisy_image(rng):
+def noisy_image(rng, words):
     """A drive whose noise comes near the middle of its two levels or passes it, with read levels around it
     and some near the erased level."""
-    drive = Drive()
-    drive.choose_sizes(rng, [4, 8, 12, 12, 16, 16, 20, 24, 32, 36, 64], most_dies=4)
+    drive = Drive(words)
+    liftings = [4, 8, 12, 12, 16, 16, 20, 24, 32, 36, 64]
+    drive.choose_sizes(rng, [z for z in liftings if z * words <= 80], most_dies=4)
     drive.zero_blocks = rng.choice([0.0, 0.1, 0.2, 0.7])
     drive.iterations = rng.randint(1, 10)
     half = rng.randint(20, 300)
@@ -94,21 +100,22 @@ def noisy_image(rng):
     return drive.image(rng)
 
 
-def unchecked_image(rng):
+def unchecked_image(rng, words):
     """A drive some of whose bits stand in no check, so that codewords come up which have a wrong serial,
     row or text, or something after the data."""
-    drive = Drive()
+    drive = Drive(words)
     drive.choose_sizes(rng, [8], most_dies=3)
-    drive.base_rows, drive.message_columns, drive.data_bytes, drive.iterations = 5, 33, 1, 4
-    drive.unchecked = rng.choice([range(0, 8), range(8, 12), range(12, 16), range(17, 33)])
+    drive.base_rows, drive.message_columns, drive.data_bytes, drive.iterations = 5, 32 // words + 1, 1, 4
+    unchecked = rng.choice([range(0, 8), range(8, 12), range(12, 16), range(27, 33)])
+    drive.unchecked = {byte % drive.message_columns for byte in unchecked}
     drive.zero_blocks, drive.spread = 0.1, rng.randint(100, 108)
     drive.read_levels = [rng.randint(-3, 3) for _ in range(rng.randint(1, 4))]
     return drive.image(rng)
 
 
-def lossy_image(rng):
+def lossy_image(rng, words):
     """A drive with little noise, whose pages are lost by ageing alone."""
-    drive = Drive()
+    drive = Drive(words)
     drive.choose_sizes(rng, [8, 12, 16, 32], most_dies=6)
     drive.channels, drive.rows = 1, 2 * (drive.dies - 1) * drive.pages
     drive.bad, drive.iterations = [], 3
@@ -118,9 +125,25 @@ def lossy_image(rng):
     return drive.image(rng)
 
 
-def wide_image(rng):
+def torn_image(rng, words):
+    """A drive whose read levels lie to both sides of the middle in turn, each so far that a codeword is found
+    there or isn't, as its noise falls: one codeword of a page is found at one level, and one at another."""
+    drive = Drive(words)
+    drive.choose_sizes(rng, [12, 16, 20], most_dies=3)
+    drive.channels, drive.bad, drive.zero_blocks, drive.iterations = 1, [], 0.1, 6
+    drive.spread, drive.soft_step = 60, rng.randint(5, 60)
+    bits = drive.lifting * (drive.base_rows + drive.message_columns)
+    drive.read_levels, side = [], rng.choice([-1, 1])
+    for _ in range(rng.randint(2, 5)):
+        share = rng.uniform(12, 22) / bits
+        drive.read_levels.append(side * (40 + int(2 * drive.spread * share)))
+        side = -side
+    return drive.image(rng)
+
+
+def wide_image(rng, words):
     """A drive with the widest levels, noise and soft step, and many dies and read levels."""
-    drive = Drive()
+    drive = Drive(words)
     drive.choose_sizes(rng, [8, 12, 16], most_dies=8)
     drive.zero_blocks, drive.iterations = 0.2, 2
     cells = [(-8192, 8191), (-8192, -8191), (8190, 8191), (-4096, 8191)]

@@ -1,6 +1,10 @@
 """Worked examples of runs, with their output written out, and of single rules."""
-from .code import Code, told
-from .drive import hard_values, soft_values
+import struct
+from collections import Counter
+
+from .code import Code, Pages, told
+from .drive import Ladder, hard_values, soft_values
+from .inputs import Head
 from .random_words import words_of
 
 # One channel of three dies and four superblocks of two pages; two read levels, no noise; eight rows, of
@@ -17,8 +21,17 @@ IMAGE = bytes.fromhex(
 )
 
 
-def changed(at, new):
-    return IMAGE[:at] + new + IMAGE[at + len(new):]
+# The same drive in the second version, whose pages have two codewords of half the size.
+TWO_CODEWORDS = b"SSDIMG02\2" + IMAGE[8:14] + b"\x20\0" + IMAGE[16:]
+
+
+def changed(at, new, image=IMAGE):
+    return image[:at] + new + image[at + len(new):]
+
+
+def versions(image):
+    """An image of the first version, and the same drive in the second."""
+    return image, b"SSDIMG02\1" + image[8:]
 
 
 def trace(*lines):
@@ -46,61 +59,113 @@ def senses(tag, look, place, *levels):
     return [f"{tag} sense {look} {place} {level}" for level in levels]
 
 
-# What each row shows, its input, its status, its output, and its text on standard error.
-ROWS = [
-    ("one page is written and read", IMAGE + trace("0 write 5 x0102", "0 read 5"), 0, text(
+# What each row shows, its trace, its status, its output, and its text on standard error. The sizes are those
+# of each of the images, so the rows hold on all three.
+TRACES = [
+    ("one page is written and read", trace("0 write 5 x0102", "0 read 5"), 0, text(
         [["0.0 write 5 0.0", "0.1 look 5 page 0.0 0 open", "0.1 sense 1 1.0.0 0", "0.1 leave 1"]],
         ["ok", "data 0 0102000000000000"],
         writes="1 0 0 0", reads="1 0 0 0", senses=1, rungs="1 0 0 0"), ""),
-    ("no calls", IMAGE + trace(), 0, text([[]], []), ""),
+    ("no calls", trace(), 0, text([[]], []), ""),
     ("a trimmed page is empty",
-     IMAGE + trace("0 read 3", "0 write 3 x07", "0 trim 3", "0 read 3"), 0, text(
+     trace("0 read 3", "0 write 3 x07", "0 trim 3", "0 read 3"), 0, text(
         [["0.0 look 3 empty", "0.1 write 3 0.0", "0.2 trim 3", "0.3 look 3 empty"]],
         ["empty", "ok", "ok", "empty"],
         writes="1 0 0 0", reads="0 2 0 0", trims=1), ""),
     ("the last of two writes is read",
-     IMAGE + trace("0 write 3 x01", "0 write 3 x02", "0 read 3"), 0, text(
+     trace("0 write 3 x01", "0 write 3 x02", "0 read 3"), 0, text(
         [["0.0 write 3 0.0", "0.1 write 3 0.1",
           "0.2 look 3 page 0.1 1 closed", "0.2 sense 2 2.0.0 0", "0.2 leave 2"]],
         ["ok", "ok", "data 0 0200000000000000"],
         writes="2 0 0 0", reads="1 0 0 0", senses=1, rungs="1 0 0 0"), ""),
     ("an aged page is read at the second level",
-     IMAGE + trace("0 write 0 x09", "0 age 0 1 0 150", "0 read 0"), 0, text(
+     trace("0 write 0 x09", "0 age 0 1 0 150", "0 read 0"), 0, text(
         [["0.0 write 0 0.0", "0.1 age 1.0 150", "0.2 look 0 page 0.0 0 open",
           *senses("0.2", 2, "1.0.0", 0, -60), "0.2 leave 2"]],
         ["ok", "ok", "data 1 0900000000000000"],
         writes="1 0 0 0", reads="1 0 0 0", senses=2, rungs="0 1 0 0", hints="1 0 0"), ""),
     ("a lost page is recovered by its stripe",
-     IMAGE + trace("0 write 0 x01", "0 write 1 x02", "0 age 0 1 0 200", "0 read 0"), 0, text(
+     trace("0 write 0 x01", "0 write 1 x02", "0 age 0 1 0 200", "0 read 0"), 0, text(
         [["0.0 write 0 0.0", "0.1 write 1 0.1", "0.2 age 1.0 200", "0.3 look 0 page 0.0 0 closed",
           *senses("0.3", 3, "1.0.0", 0, -60, -20, -10, 0, 10, 20),
           *senses("0.3", 3, "0.0.0", 0), *senses("0.3", 3, "2.0.0", 0), "0.3 leave 3"]],
         ["ok", "ok", "ok", "data 3 0100000000000000"],
         writes="2 0 0 0", reads="1 0 0 0", senses=9, rungs="0 0 0 1", hints="1 0 0"), ""),
     ("a lost page of an open stripe is uncorrectable",
-     IMAGE + trace("0 write 0 x01", "0 age 0 1 0 200", "0 read 0"), 0, text(
+     trace("0 write 0 x01", "0 age 0 1 0 200", "0 read 0"), 0, text(
         [["0.0 write 0 0.0", "0.1 age 1.0 200", "0.2 look 0 page 0.0 0 open",
           *senses("0.2", 2, "1.0.0", 0, -60, -20, -10, 0, 10, 20), "0.2 leave 2"]],
         ["ok", "ok", "uncorrectable"],
         writes="1 0 0 0", reads="0 0 1 0", senses=7), ""),
+    ("a page out of range", trace("0 write 8 x00"), 4, "",
+     "trace fault in line 2: range\n"),
+    ("the last page", trace("0 write 7 x00"), 0, text(
+        [["0.0 write 7 0.0"]], ["ok"], writes="1 0 0 0"), ""),
+]
+
+ROWS = [
+    (f"{what} ({kind})", image + lines, *due)
+    for kind, image in zip(["the first version", "one codeword a page", "two codewords a page"],
+                           [*versions(IMAGE), TWO_CODEWORDS])
+    for what, lines, *due in TRACES
+]
+ROWS += [
     ("an odd page belongs to the second of two channels",
      changed(8, b"\2") + trace("0 write 3 x00"), 0, text(
         [[], ["0.0 write 1 0.0"]], ["ok"], writes="1 0 0 0"), ""),
-    ("a page out of range", IMAGE + trace("0 write 8 x00"), 4, "",
-     "trace fault in line 2: range\n"),
-    ("the last page", IMAGE + trace("0 write 7 x00"), 0, text(
-        [["0.0 write 7 0.0"]], ["ok"], writes="1 0 0 0"), ""),
     ("an image that ends early", IMAGE[:20], 3, "", "image fault at 20: short\n"),
     ("no input", b"", 3, "", "image fault at 0: short\n"),
     ("a base matrix without the dual diagonal", changed(60, b"\1\0") + trace(), 3, "",
      "image fault at 60: diagonal\n"),
+    ("as much data as four codewords hold",
+     changed(21, b"\x20", changed(8, b"\4", TWO_CODEWORDS)) + trace(), 0, text([[]], []), ""),
+    ("no trace after two codewords", TWO_CODEWORDS, 4, "", "trace fault in line 1: first\n"),
 ]
+
+
+class ListedSenses:
+    """A page whose senses are listed by their level."""
+
+    def __init__(self, senses):
+        self.senses = senses
+
+    def sense(self, place, level):
+        return self.senses[level]
+
+
+def wrong_ladder():
+    """What differs from the worked example of a page whose codewords are found by different senses."""
+    head = Head(TWO_CODEWORDS)
+    code = Code(head.lifting, head.base_rows)
+    pages, ones = Pages(code, head.words), (1 << code.bits) - 1
+    payload = "0000000000000000 05000000 50474531 0102000000000000"
+    page = pages.word_of(int.from_bytes(bytes.fromhex(payload), "little"))
+    first, second = pages.codewords(page)
+    senses = {0: pages.page_of([first, ones]), -60: pages.page_of([ones, second])}
+    ladder = Ladder(head, pages, ListedSenses(senses), Counter())
+    found = ladder.recovered((1, 0, 0), lambda word: word == page, False)
+    # The numbers of a page of ones by base column, after each iteration. The last two come in turn.
+    third, fourth = (-9, -39, -10, -13, -9, -10), (-9, -39, -8, -12, -9, -8)
+    due = [(-32, -62, -14, -38, -32, -14), (-10, -41, -7, -13, -10, -7), *[third, fourth] * 3]
+    rounds = code.rounds(hard_values(ones, code.bits))
+    next(rounds)
+    got = []
+    for _, numbers in zip(due, rounds):
+        columns = [set(numbers[j:j + head.lifting]) for j in range(0, code.bits, head.lifting)]
+        got.append(tuple(column.pop() if len(column) == 1 else None for column in columns))
+    return [
+        ("a page whose codewords two senses give", found, (1, page)),
+        ("the senses of that page", ladder.asks, [((1, 0, 0), 0), ((1, 0, 0), -60)]),
+        ("ones, iteration by iteration", got, due),
+        ("ones", code.decode(hard_values(ones, code.bits), head.iterations), None),
+    ]
 
 
 def wrong_parts():
     """What differs from worked examples of single rules."""
     code = Code(4, [(0, -1, 1, 0, -1), (-1, 2, 0, 0, 0), (3, 0, 1, -1, 0)])
     word, flipped = 0x0b8301, 0x0b8300
+    two = Pages(code, 2)
     first = next(words_of(0))
     cells = (-100, 5, 20)
     sensed = lambda level: sum((cell < level) << i for i, cell in enumerate(cells))
@@ -117,5 +182,10 @@ def wrong_parts():
         ("the first word of noise", first, 0xe220a8397b1dcdaf),
         ("the noise of four cells", noise, [-2, 0, -2, 2]),
         ("soft values", soft_values(five, len(cells)), [-96, 16, 96]),
+        ("a page whose first part has a one", two.word_of(0x0001), 0x000_b83_00_01),
+        ("a page whose second part has a one", two.word_of(0x0100), 0xb83_000_01_00),
+        ("the codewords of that page", two.codewords(0xb83_000_01_00), [0, word]),
+        ("the payload of that page", two.payload_of(0xb83_000_01_00), b"\0\1"),
+        *wrong_ladder(),
     ]
     return [f"{what}: {got}, and {due} is due" for what, got, due in cases if got != due]
