@@ -8,10 +8,12 @@ use Rattle.std.specs.List.{list_all}
 use Rattle.ssd_geo.specs.BaseMatrix.{IsAccepted, first_fault}
 use Rattle.ssd_formats.specs.Fields.{is_below}
 use Rattle.ssd_geo.specs.Limits.{is_within, is_signed_within}
-use Rattle.ssd_formats.specs.ImageHead.{IsHead, is_short, is_programmed_level, signed_numbers, head_of, matrix_of_head, sizes_of}
+use Rattle.ssd_formats.specs.ImageHead.{IsHead, is_short, is_programmed_level, signed_numbers, head_of, matrix_of_head}
+use Rattle.ssd_geo.specs.Shape.{sizes_of}
 use Rattle.ssd_geo.specs.declared.cell_law.CellLaw.{CellLaw}
 use Rattle.ssd_geo.specs.declared.head.ImageHead.{ImageHead}
-use Rattle.image_file.specs.Fixed.{AreFixed, AreSizes, fixed_of}
+use Rattle.image_file.specs.Fixed.{AreFixed, fixed_of}
+use Rattle.image_file.specs.Sizes.{AreSizes}
 use Rattle.image_file.specs.Lists.{AreLevels, AreBlocks}
 use Rattle.image_file.specs.declared.fixed.FixedFields.{FixedFields}
 
@@ -40,12 +42,13 @@ pub head_is : (fixed : FixedFields) (head : ImageHead) → fixed.shape ≡ head.
 head_is fixed head same_shape same_iterations same_law same_step same_session are levels short accepted blocks =
     let sizes = subst (λ s. AreSizes (sizes_of s)) same_shape are.sizes in
     record {
-      channels = sizes.channels;
-      dies = sizes.dies;
-      superblocks = sizes.superblocks;
-      pages = sizes.pages;
-      lifting = sizes.lifting;
-      base_rows = sizes.base_rows;
+      words = sizes.first.words;
+      channels = sizes.first.channels;
+      dies = sizes.first.dies;
+      superblocks = sizes.first.superblocks;
+      pages = sizes.first.pages;
+      lifting = sizes.first.lifting;
+      base_rows = sizes.first.base_rows;
       base_columns = sizes.base_columns;
       level_count = ap (is_within 1 16) levels.count ∙ are.level_count;
       iterations = ap (is_within 1 64) (sym same_iterations) ∙ are.iterations;

@@ -1,8 +1,8 @@
 -- The steps of the lists of a head.
 use Rattle.std.proofs.Common.{◌≡◌, ℕ, ℤ, suc, List, [], ◌∷◌, ◌++◌, Ok, Err, refl, sym, subst, ◌∙◌}
 use Rattle.ssd_formats.specs.Fields.{Fault, Reading, Rest, level_fields, signed_field}
-use Rattle.ssd_geo.specs.Limits.{is_level}
-use Rattle.ssd_formats.specs.ImageHead.{Sizes, weak_record, weak_records, bad_record, bad_records}
+use Rattle.ssd_geo.specs.Limits.{Sizes, is_level}
+use Rattle.ssd_formats.specs.ImageHead.{weak_record, weak_records, bad_record, bad_records}
 use Rattle.ssd_geo.specs.declared.weak.Weak.{Weak}
 use Rattle.image_file.specs.declared.stop.ImageFault.{ImageFault}
 use Rattle.image_file.specs.declared.stop.ReadStop.{ReadStop}

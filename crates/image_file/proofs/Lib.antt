@@ -6,4 +6,5 @@ mod HeadRanges
 mod LevelSteps
 mod ListRanges
 mod MatrixSteps
+mod SizeRanges
 mod SpelledFields

@@ -5,7 +5,8 @@ use Rattle.ssd_formats.proofs.HeadLaws.{both_of}
 use Rattle.ssd_formats.proofs.SpelledHeads.{all_snoc, below_if}
 use Rattle.ssd_formats.specs.Fields.{is_below}
 use Rattle.ssd_geo.specs.Limits.{is_level}
-use Rattle.ssd_formats.specs.ImageHead.{Sizes, is_weak_record, are_weak_records, is_bad_record, are_bad_records}
+use Rattle.ssd_geo.specs.Limits.{Sizes}
+use Rattle.ssd_formats.specs.ImageHead.{is_weak_record, are_weak_records, is_bad_record, are_bad_records}
 use Rattle.ssd_geo.specs.declared.weak.Weak.{Weak}
 use Rattle.image_file.specs.Lists.{AreLevels, AreWeak, AreBad, AreBlocks}
 

@@ -6,7 +6,8 @@ use Rattle.qc_matrix.specs.declared.fault.CodeFault.{CodeFault}
 use Rattle.qc_matrix.specs.declared.fault.CodeFault.TheVariants.{EntryRange, ParityColumn, Diagonal as WrongDiagonal, Memory as NoMemory}
 use Rattle.ssd_geo.specs.BaseMatrix.{BaseMatrix, IsAccepted, first_fault}
 use Rattle.ssd_formats.specs.Fields.{Fault, Reading, Rest, signed_of_bytes, ◌>>=◌, bytes_field}
-use Rattle.ssd_formats.specs.ImageHead.{Sizes, matrix_field, matrix_fault, signed_numbers, unless_fault}
+use Rattle.ssd_geo.specs.Limits.{Sizes}
+use Rattle.ssd_formats.specs.ImageHead.{matrix_field, matrix_fault, signed_numbers, unless_fault}
 use Rattle.image_file.specs.declared.stop.ImageFault.{ImageFault}
 use Rattle.image_file.specs.declared.stop.ReadStop.{ReadStop}
 use Rattle.image_file.specs.declared.stop.ReadStop.TheVariants.{Fault as FaultAt, ReadFault, DieFailed, Memory}

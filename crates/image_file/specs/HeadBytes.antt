@@ -3,7 +3,8 @@
 use Rattle.std.specs.Prelude.{ℕ, ◌++◌, List, length, flat_map}
 use Rattle.std.specs.Int.{w8, w16, w32, w64, to_le_bytes}
 use Rattle.ssd_formats.specs.Fields.{bytes_of_signed}
-use Rattle.ssd_formats.specs.ImageHead.{Head, Sizes, beginning, weak_bytes, bad_bytes}
+use Rattle.ssd_formats.specs.ImageHead.{Head, beginning, weak_bytes, bad_bytes}
+use Rattle.ssd_geo.specs.Limits.{Sizes}
 use Rattle.ssd_geo.specs.declared.cell_law.CellLaw.{CellLaw}
 use Rattle.ssd_geo.specs.declared.weak.Weak.{Weak}
 
@@ -11,6 +12,7 @@ use Rattle.ssd_geo.specs.declared.weak.Weak.{Weak}
 unfoldable pub size_bytes : Sizes → ℕ → ℕ → List ℕ
 size_bytes sizes levels iterations =
     beginning ++
+    to_le_bytes w8 sizes.words ++
     to_le_bytes w8 sizes.channels ++
     to_le_bytes w8 sizes.dies ++
     to_le_bytes w16 sizes.superblocks ++

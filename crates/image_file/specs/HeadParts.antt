@@ -3,8 +3,8 @@
 use Rattle.std.specs.Prelude.{ℕ, List, [], Ok, ◌==◌}
 use Rattle.std.specs.Int.{w8, w16}
 use Rattle.ssd_formats.specs.Fields.{Rest, Reading, ◌>>=◌, number_field, is_any, level_fields}
-use Rattle.ssd_geo.specs.Limits.{is_within}
-use Rattle.ssd_formats.specs.ImageHead.{Head, Sizes, fixed_fields, matrix_field, weak_records, bad_records}
+use Rattle.ssd_geo.specs.Limits.{Sizes, is_within}
+use Rattle.ssd_formats.specs.ImageHead.{Head, fixed_fields, matrix_field, weak_records, bad_records}
 use Rattle.ssd_geo.specs.declared.weak.Weak.{Weak}
 use Rattle.image_file.specs.declared.blocks.BlockLists.{BlockLists}
 

@@ -5,4 +5,5 @@ pub mod HeadGiven
 pub mod HeadParts
 pub mod Lists
 pub mod Matrix
+pub mod Sizes
 pub mod StopCauses

@@ -3,8 +3,8 @@
 use Rattle.std.specs.Prelude.{◌≡◌, ℕ, ℤ, IsTrue, ◌^◌, List, [], length}
 use Rattle.std.specs.List.{list_all}
 use Rattle.ssd_formats.specs.Fields.{is_below}
-use Rattle.ssd_geo.specs.Limits.{is_level}
-use Rattle.ssd_formats.specs.ImageHead.{Sizes, are_weak_records, are_bad_records}
+use Rattle.ssd_geo.specs.Limits.{Sizes, is_level}
+use Rattle.ssd_formats.specs.ImageHead.{are_weak_records, are_bad_records}
 use Rattle.ssd_geo.specs.declared.weak.Weak.{Weak}
 
 -- so many read levels

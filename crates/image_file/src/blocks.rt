@@ -1,6 +1,6 @@
 // The weak and the factory bad blocks of an image, each list behind its number.
 ghost use Rattle.std.specs.Prelude.{◌^◌, ◌+◌, ◌<◌, ◌≤◌, IfOk};
-ghost use Rattle.ssd_formats.specs.ImageHead.{sizes_of};
+ghost use Rattle.ssd_geo.specs.Shape.{sizes_of};
 ghost use Rattle.image_file.specs.Gives.{ReadsUpTo};
 ghost use Rattle.image_file.specs.Lists.{AreBlocks};
 ghost use Rattle.image_file.specs.HeadParts.{block_fields, blocks_of};

@@ -25,8 +25,8 @@ fn read_parts<S: Source>(alloc: Global, input: &mut S) -> Result<ImageHead, Read
     ensures place { IfOk result (λ head. head.place < 2 ^ 62) }
 {
     let fixed = read_fixed(input)?;
-    let levels = read_levels(alloc, input, 48, fixed.levels)?;
-    let matrix_at = 48 + 2 * fixed.levels as u64;
+    let levels = read_levels(alloc, input, fixed.place, fixed.levels)?;
+    let matrix_at = fixed.place + 2 * fixed.levels as u64;
     let entries = read_matrix(alloc, input, matrix_at, &fixed.shape)?;
     let blocks_at = matrix_at + 2 * (fixed.shape.mb as u64 * fixed.shape.nb as u64);
     let blocks = read_blocks(alloc, input, blocks_at, &fixed.shape)?;
@@ -46,7 +46,7 @@ fn read_parts<S: Source>(alloc: Global, input: &mut S) -> Result<ImageHead, Read
     })
 }
 
-/// The head of the image that the source begins with. After a fault the source stands where it had come.
+/// The head of the image that the source begins with, of either version. After a fault the source stands where it had come.
 #[tactic(auto, using(crate::proofs::HeadInParts::head_in_parts))]
 pub fn read_head<S: Source>(alloc: Global, input: &mut S) -> Result<ImageHead, ReadStop<ImageFault>>
     ensures read { ReadsHead (S.left input.old) (S.left input.new) result }

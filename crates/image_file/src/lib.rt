@@ -8,6 +8,7 @@ mod fixed;
 mod head;
 mod lists;
 mod matrix;
+mod sizes;
 mod stop;
 mod written_head;
 mod written_lists;

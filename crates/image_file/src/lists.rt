@@ -1,12 +1,13 @@
 // The lists of an image's head.
 ghost use Rattle.std.specs.Prelude.{◌+◌, ◌*◌, ◌^◌, ◌<◌, ◌≤◌, ◌≡◌, [], IfOk, IsTrue, length};
 ghost use Rattle.ssd_formats.specs.Fields.{level_fields};
-ghost use Rattle.ssd_formats.specs.ImageHead.{bad_of_channel, bad_record, bad_records, weak_records, rows_fit, comes_after, is_bad_record, is_weak_record, is_bad_before, is_weak_before, sizes_of, weak_record};
+ghost use Rattle.ssd_formats.specs.ImageHead.{bad_of_channel, bad_record, bad_records, weak_records, rows_fit, comes_after, is_bad_record, is_weak_record, is_bad_before, is_weak_before, weak_record};
+ghost use Rattle.ssd_geo.specs.Shape.{sizes_of};
 ghost use Rattle.image_file.specs.Gives.{Reads};
 ghost use Rattle.image_file.specs.Lists.{AreBad, AreLevels, AreWeak};
 
 use crate::field::{i16_within, read_u32, u8_below, u16_below};
-use crate::fixed::row_limit;
+use crate::sizes::row_limit;
 use crate::stop::{ImageFault, ReadStop};
 use ssd_geo::{Shape, Weak};
 use ssd_io::Source;

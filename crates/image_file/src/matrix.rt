@@ -2,7 +2,8 @@
 ghost use Rattle.std.specs.Prelude.{◌≡◌, ◌+◌, ◌*◌, ◌/◌, ◌^◌, ◌<◌, ◌≤◌, IfOk, IsTrue, length};
 ghost use Rattle.std.specs.List.{list_all};
 ghost use Rattle.ssd_geo.specs.BaseMatrix.{IsAccepted};
-ghost use Rattle.ssd_formats.specs.ImageHead.{is_short, matrix_field, signed_numbers, sizes_of};
+ghost use Rattle.ssd_formats.specs.ImageHead.{is_short, matrix_field, signed_numbers};
+ghost use Rattle.ssd_geo.specs.Shape.{sizes_of};
 ghost use Rattle.image_file.specs.Gives.{Reads};
 ghost use Rattle.image_file.specs.Matrix.{entries_field, matrix_of_shape, matrix_stop};
 

@@ -15,10 +15,27 @@ const IMAGE: [u8; 93] = [
     0x03, 0x00, 0x01, 0x00, 0xff, 0xff, 0x00, 0x00, 0x00, 0x00, 0x00, 0x00, 0x00,
 ];
 
-// Its head, with these weak and bad blocks.
+// The same image in the second version, with so many codewords a page of this lifting size.
+fn second_version(alloc: Global, image: &[u8], words: u8, lifting: u8) -> Result<Vec<u8>, Fail> {
+    let mut bytes = Vec::new(alloc);
+    bytes.extend_from_slice(b"SSDIMG02")?;
+    bytes.push(words)?;
+    for byte in image.iter().skip(8) {
+        bytes.push(*byte)?;
+    }
+    image_with(alloc, &bytes, 15, &[lifting])
+}
+
+// Its shape, with so many codewords a page and rows.
+fn shape_with(words: u8, lifting: u16, rows: u32) -> Result<Shape, Fail> {
+    let shape = Shape::new(words, 1, 3, 4, 2, lifting, 3, 6, 8, rows)?;
+    Ok(shape)
+}
+
+// Its head, with this shape and these weak and bad blocks.
 fn head_with(
     alloc: Global,
-    rows: u32,
+    shape: Shape,
     weak: Vec<Weak>,
     bad: Vec<(u8, u16)>,
     full: bool,
@@ -26,7 +43,7 @@ fn head_with(
 ) -> Result<ImageHead, Fail> {
     let entries = vec![in alloc; 0, 1, -1, 1, 0, -1, 5, -1, 7, 0, 0, 0, -1, 11, 3, 1, -1, 0]?;
     Ok(ImageHead {
-        shape: Shape::new(1, 3, 4, 2, 64, 3, 6, 8, rows)?,
+        shape,
         read_levels: Items::new(vec![in alloc; 0, -60]?),
         iterations: 8,
         law: CellLaw {
@@ -62,11 +79,42 @@ fn image_with(alloc: Global, image: &[u8], at: usize, others: &[u8]) -> Result<V
 fn a_head_is_read_and_what_follows_is_left(rt: HostRuntime) -> Result<(), Fail> {
     let alloc = rt.alloc();
     let mut source = SureSource::new(image_with(alloc, &IMAGE, 93, &[7])?);
-    let want = head_with(alloc, 8, Vec::new(alloc), Vec::new(alloc), false, 93)?;
+    let shape = shape_with(1, 64, 8)?;
+    let want = head_with(alloc, shape, Vec::new(alloc), Vec::new(alloc), false, 93)?;
     assert_eq!(rt; read_head(alloc, &mut source), Ok(want));
     let mut next = [0; 2];
     assert_eq!(rt; source.read(&mut next), Ok(1));
     assert_eq!(rt; next, [7, 0]);
+    Ok(())
+}
+
+#[test]
+fn a_head_of_the_second_version_is_read(rt: HostRuntime) -> Result<(), Fail> {
+    let alloc = rt.alloc();
+    for (words, lifting) in [(1, 64), (2, 32), (4, 16)] {
+        let image = second_version(alloc, &IMAGE, words, lifting)?;
+        let mut source = SureSource::new(image_with(alloc, &image, 94, &[7])?);
+        let shape = shape_with(words, lifting as u16, 8)?;
+        let want = head_with(alloc, shape, Vec::new(alloc), Vec::new(alloc), false, 94)?;
+        assert_eq!(rt; read_head(alloc, &mut source), Ok(want));
+        let mut next = [0; 2];
+        assert_eq!(rt; source.read(&mut next), Ok(1));
+        assert_eq!(rt; next, [7, 0]);
+    }
+    Ok(())
+}
+
+#[test]
+fn other_numbers_of_codewords_are_refused(rt: HostRuntime) -> Result<(), Fail> {
+    let alloc = rt.alloc();
+    for words in [0, 3, 5, 255] {
+        let want = ReadStop::Fault {
+            at: 8,
+            fault: ImageFault::Range,
+        };
+        let mut source = SureSource::new(second_version(alloc, &IMAGE, words, 64)?);
+        assert_eq!(rt; read_head(alloc, &mut source), Err(want), "of {words}");
+    }
     Ok(())
 }
 
@@ -92,7 +140,8 @@ fn weak_and_bad_blocks_are_read(rt: HostRuntime) -> Result<(), Fail> {
             from: 1 << 24
         },
     ]?;
-    let want = head_with(alloc, 4, weak, vec![in alloc; (0, 3)]?, true, 113)?;
+    let shape = shape_with(1, 64, 4)?;
+    let want = head_with(alloc, shape, weak, vec![in alloc; (0, 3)]?, true, 113)?;
     let mut source = SureSource::new(image_with(alloc, &few_rows, 88, &lists)?);
     assert_eq!(rt; read_head(alloc, &mut source), Ok(want));
     Ok(())
@@ -101,13 +150,15 @@ fn weak_and_bad_blocks_are_read(rt: HostRuntime) -> Result<(), Fail> {
 #[test]
 fn a_short_head_ends_at_its_length(rt: HostRuntime) -> Result<(), Fail> {
     let alloc = rt.alloc();
-    for n in 0..93 {
-        let want = ReadStop::Fault {
-            at: n as u64,
-            fault: ImageFault::Short,
-        };
-        let mut source = SureSource::new(IMAGE[..n].to_vec(alloc)?);
-        assert_eq!(rt; read_head(alloc, &mut source), Err(want));
+    for image in [IMAGE.to_vec(alloc)?, second_version(alloc, &IMAGE, 1, 64)?] {
+        for n in 0..image.len() {
+            let want = ReadStop::Fault {
+                at: n as u64,
+                fault: ImageFault::Short,
+            };
+            let mut source = SureSource::new(image[..n].to_vec(alloc)?);
+            assert_eq!(rt; read_head(alloc, &mut source), Err(want));
+        }
     }
     Ok(())
 }
@@ -117,8 +168,9 @@ fn first_faults_are_named(rt: HostRuntime) -> Result<(), Fail> {
     let alloc = rt.alloc();
     let mut few_rows = IMAGE;
     few_rows[24] = 4;
-    let cases: [(usize, &[u8], u64, ImageFault); 18] = [
+    let cases: [(usize, &[u8], u64, ImageFault); 19] = [
         (0, &[0x54], 0, ImageFault::Magic),
+        (7, &[0x33], 0, ImageFault::Magic),
         (8, &[0], 8, ImageFault::Range),
         (16, &[2], 16, ImageFault::Range),
         (17, &[3], 17, ImageFault::Range),
@@ -162,10 +214,23 @@ fn first_faults_are_named(rt: HostRuntime) -> Result<(), Fail> {
         ),
         (88, &[0, 0, 0, 0, 2], 92, ImageFault::Range),
     ];
+    let second = second_version(alloc, &few_rows, 1, 64)?;
     for (from, others, at, fault) in cases {
         let mut source = SureSource::new(image_with(alloc, &few_rows, from, others)?);
         let want = ReadStop::Fault { at, fault };
         assert_eq!(rt; read_head(alloc, &mut source), Err(want), "from {from}");
+        // Behind the text each field stands one place later in the second version.
+        let later = if from < 8 { 0 } else { 1 };
+        let bytes = image_with(alloc, &second, from + later, others)?;
+        let want = ReadStop::Fault {
+            at: at + later as u64,
+            fault,
+        };
+        assert_eq!(rt;
+            read_head(alloc, &mut SureSource::new(bytes)),
+            Err(want),
+            "from {from}"
+        );
     }
     Ok(())
 }
@@ -195,7 +260,7 @@ fn a_failed_read_is_answered(rt: HostRuntime) -> Result<(), Fail> {
 
 // The sink has room for so many bytes, and one of its calls fails, counted from 1.
 #[test]
-fn a_head_is_written_as_it_was_read(rt: HostRuntime) -> Result<(), Fail> {
+fn a_head_is_written_in_the_second_version(rt: HostRuntime) -> Result<(), Fail> {
     let alloc = rt.alloc();
     let mut few_rows = IMAGE;
     few_rows[24] = 4;
@@ -203,22 +268,40 @@ fn a_head_is_written_as_it_was_read(rt: HostRuntime) -> Result<(), Fail> {
         2, 0, 0, 0, 2, 0, 7, 0, 0, 0, 0, 2, 1, 0, 0, 0, 0, 1, 1, 0, 0, 0, 3, 0, 1,
     ];
     for (room, call, want, written) in [
-        (120, 0, Ok(()), 113),
-        (113, 0, Ok(()), 113),
-        (112, 0, Err(Failed), 112),
+        (120, 0, Ok(()), 114),
+        (114, 0, Ok(()), 114),
+        (113, 0, Err(Failed), 113),
         (0, 0, Err(Failed), 0),
-        (120, 3, Err(Failed), 48),
+        (120, 3, Err(Failed), 49),
     ] {
         let bytes = image_with(alloc, &few_rows, 88, &lists)?;
+        let second = second_version(alloc, &bytes, 1, 64)?;
         let mut sink = MemSink::new(alloc, vec![in alloc; call]?, room)?;
         let head = read_head(alloc, &mut SureSource::new(bytes));
         assert!(rt; head.is_ok());
         if let Ok(head) = head {
             assert_eq!(rt; write_head(&mut sink, &head), want);
         }
-        let bytes = image_with(alloc, &few_rows, 88, &lists)?;
-        assert!(rt; bytes.starts_with(sink.bytes()));
+        assert!(rt; second.starts_with(sink.bytes()));
         assert_eq!(rt; sink.bytes().len(), written);
+    }
+    Ok(())
+}
+
+#[test]
+fn what_was_written_is_read_again(rt: HostRuntime) -> Result<(), Fail> {
+    let alloc = rt.alloc();
+    for (words, lifting) in [(1, 64), (2, 32), (4, 16)] {
+        let image = second_version(alloc, &IMAGE, words, lifting)?;
+        let mut sink = MemSink::new(alloc, Vec::new(alloc), 94)?;
+        let head = read_head(alloc, &mut SureSource::new(image.clone()?));
+        assert!(rt; head.is_ok());
+        if let Ok(head) = head {
+            assert_eq!(rt; write_head(&mut sink, &head), Ok(()));
+            assert_eq!(rt; sink.bytes(), &image[..]);
+            let mut source = SureSource::new(image_with(alloc, sink.bytes(), 94, &[7])?);
+            assert_eq!(rt; read_head(alloc, &mut source), Ok(head));
+        }
     }
     Ok(())
 }

@@ -4,7 +4,8 @@ ghost use Rattle.std.specs.Int.{to_le_bytes, w8};
 ghost use Rattle.std.specs.Io.KnownBytes.{Appends};
 ghost use Rattle.ssd_io.specs.FaultCounts.{MatchesCount};
 ghost use Rattle.ssd_formats.specs.Fields.{bytes_of_signed};
-ghost use Rattle.ssd_formats.specs.ImageHead.{IsHead, head_bytes, head_of, sizes_of};
+ghost use Rattle.ssd_formats.specs.ImageHead.{IsHead, head_bytes, head_of};
+ghost use Rattle.ssd_geo.specs.Shape.{sizes_of};
 ghost use Rattle.ssd_io.specs.Pieces.{AppendsFront};
 ghost use Rattle.image_file.specs.HeadBytes.{bad_list_bytes, block_bytes, code_bytes, fixed_bytes, law_bytes, size_bytes, weak_list_bytes};
 ghost use Rattle.ssd_io.specs.Writes.{Writes};
@@ -15,7 +16,7 @@ use ssd_io::{Failed, Sink};
 
 // The bytes up to the rows.
 #[tactic(auto, using(crate::proofs::SpelledFields::byte_spelled), unfolding(crate::specs::HeadBytes::size_bytes))]
-fn spell_sizes(shape: &Shape, levels: u8, iterations: u8) -> [u8; 28]
+fn spell_sizes(shape: &Shape, levels: u8, iterations: u8) -> [u8; 29]
     ensures { result ≡ size_bytes (sizes_of shape.now) levels iterations }
 {
     let [n0, n1] = shape.superblocks.to_le_bytes();
@@ -31,7 +32,8 @@ fn spell_sizes(shape: &Shape, levels: u8, iterations: u8) -> [u8; 28]
         b'M',
         b'G',
         b'0',
-        b'1',
+        b'2',
+        shape.words,
         shape.channels,
         shape.dies,
         n0,
@@ -160,7 +162,7 @@ fn write_parts<O: Sink>(output: &mut O, head: &ImageHead) -> Result<(), Failed>
     write_contents(output, head.full)
 }
 
-/// Writes the head of an image as it is, with its session and with what it says of contents. It takes no memory.
+/// Writes the head of an image, in the second version, as it is, with its session and with what it says of contents. It takes no memory.
 pub fn write_head<O: Sink>(output: &mut O, head: &ImageHead) -> Result<(), Failed>
     requires { IsHead (head_of head.now) }
     ensures all { OnOk result (Appends (O.written output.old) (O.written output.new) (head_bytes (head_of head.now))) }

@@ -5,7 +5,9 @@
 use Rattle.std.specs.Prelude.{ℕ, ◌+◌, ◌*◌, ◌==◌, nat_le, ◌&&◌, Bool, if◌then◌else◌, Option, List, [], ◌∷◌, ◌++◌, map, length, replicate, slice_index_or, slice_set, ℤ, pos}
 use Rattle.std.specs.List.{list_any}
 use Rattle.ssd_geo.specs.Cells.{aged_level, fresh_levels, sensed}
+use Rattle.ssd_geo.specs.Limits.{page_cells_of}
 use Rattle.ssd_geo.specs.Noise.{number_of_page}
+use Rattle.ssd_geo.specs.Shape.{sizes_of}
 use Rattle.ssd_geo.specs.declared.weak.Weak.{Weak}
 use Rattle.onfi_cmd.specs.Addresses.{block_of_row, page_of_row, params_of_level, level_of_params}
 use Rattle.onfi_cmd.specs.declared.op.Op.{Op}
@@ -45,7 +47,7 @@ programmed_in blocks sb = length (cells_at blocks sb).pages
 
 -- how many cells a page has
 abbrev pub cells_of_page : DiePlan → ℕ
-cells_of_page plan = plan.shape.nb * plan.shape.z
+cells_of_page plan = page_cells_of (sizes_of plan.shape)
 
 -- the levels of a page that isn't programmed
 abbrev pub erased_levels : DiePlan → List ℤ

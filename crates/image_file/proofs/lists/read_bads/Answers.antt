@@ -1,5 +1,6 @@
 use Rattle.std.proofs.Common.{◌≡◌, [], ◌∷◌, ◌++◌, ap, ◌∙◌, rules, ◌+◌, ◌*◌, ◌-◌, arith}
-use Rattle.ssd_formats.specs.ImageHead.{bad_records, is_bad_record, sizes_of}
+use Rattle.ssd_geo.specs.Shape.{sizes_of}
+use Rattle.ssd_formats.specs.ImageHead.{bad_records, is_bad_record}
 use Rattle.image_file.specs.Gives.{rest_at}
 use Rattle.image_file.proofs.LevelSteps.{bad_more, bad_stops, cause_earlier}
 use Rattle.image_file.proofs.ListRanges.{bad_longer}

@@ -1,5 +1,6 @@
 use Rattle.std.proofs.Common.{[], ◌∷◌, ◌++◌, Ok, sym, ◌≡◌, ap, ◌∙◌, rules, ◌+◌, ◌*◌, ◌-◌, arith}
-use Rattle.ssd_formats.specs.ImageHead.{is_weak_record, weak_record, weak_records, sizes_of}
+use Rattle.ssd_geo.specs.Shape.{sizes_of}
+use Rattle.ssd_formats.specs.ImageHead.{is_weak_record, weak_record, weak_records}
 use Rattle.image_file.specs.Gives.{rest_at}
 use Rattle.image_file.proofs.LevelSteps.{weak_more, weak_stops, cause_earlier}
 use Rattle.image_file.proofs.ListRanges.{weak_longer}

@@ -1,5 +1,6 @@
 use Rattle.std.proofs.Common.{◌+◌, ◌*◌, ◌-◌, ◌≡◌, []}
-use Rattle.ssd_formats.specs.ImageHead.{weak_records, sizes_of}
+use Rattle.ssd_geo.specs.Shape.{sizes_of}
+use Rattle.ssd_formats.specs.ImageHead.{weak_records}
 use Rattle.ssd_io.specs.Told.{IsTold}
 use Rattle.image_file.specs.Gives.{rest_at}
 use Rattle.image_file.specs.Lists.{AreWeak}

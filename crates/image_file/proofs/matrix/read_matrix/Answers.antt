@@ -1,7 +1,8 @@
 use Rattle.std.proofs.Common.{◌≡◌, List, ℤ, rules, subst, sym}
 use Rattle.qc_matrix.specs.Fault.{IsFirstFault}
 use Rattle.ssd_geo.specs.BaseMatrix.{IsAccepted, first_fault}
-use Rattle.ssd_formats.specs.ImageHead.{matrix_field, sizes_of}
+use Rattle.ssd_geo.specs.Shape.{sizes_of}
+use Rattle.ssd_formats.specs.ImageHead.{matrix_field}
 use Rattle.image_file.specs.Gives.{rest_at, StopsAt}
 use Rattle.image_file.specs.Matrix.{matrix_of_shape}
 use Rattle.image_file.specs.StopCauses.{StopHasCause}
