@@ -256,7 +256,12 @@ class Channel:
 
             def is_the_page(page):
                 payload = self.pages.payload_of(page)
-                return payload[:16] == start and not any(payload[end:])
+                parts = {"serial": slice(0, 8), "row": slice(8, 12), "text": slice(12, 16)}
+                wrong = [name for name, part in parts.items() if payload[part] != start[part]]
+                wrong += ["end"] if any(payload[end:]) else []
+                if len(wrong) == 1:
+                    ladder.came(f"a page is wrong in its {wrong[0]} alone")
+                return not wrong
 
             place, _ = self.place_of(sb, index)
             found = ladder.recovered(place, is_the_page, self.is_closed(sb, index))

@@ -100,7 +100,8 @@ class FaultTest(ToolTest):
             ("soft_step = 10", "soft_step = 0", "reading.soft_step: 0 isn't in 1 to 2047"),
             ("channels = 1", "channels = 8\nsuperbloks = 4", "there is no such field; there are channels"),
             ("seed = 1", "seed = true", "cells.seed: True is no whole number"),
-            ("pages = 2", "pages = 2 2", "no TOML"),
+            ("pages = 2", "pages = 2 2", "bad.toml:7: no TOML"),
+            ("soft_step = 10\n", "soft_step =", "bad.toml:27: no TOML"),
         )
         for old, new, tells in cases:
             with self.subTest(new=new):
@@ -118,9 +119,13 @@ class FaultTest(ToolTest):
                 self.write("bad.toml", SMALL.replace(old, new))
                 self.refused("image", "make", "bad.toml", "-o", "bad.img", tells=tells, leaves="bad.img")
 
-    def test_a_family_wants_its_seed_in_the_file(self):
+    def test_a_family_is_named_and_wants_its_seed_in_the_file(self):
         self.tool("image", "new", "--seed", 5, "-o", "new.toml")
         text = (self.folder / "new.toml").read_text()
+        for wrong in ('"rendom"', "[1]", "3"):
+            self.write("bad.toml", text.replace('family = "random"', f"family = {wrong}"))
+            self.refused("image", "make", "bad.toml", "-o", "bad.img", tells="is none of random, staggered, array",
+                         leaves="bad.img")
         self.write("bad.toml", text.replace("seed = 5                 # from which", "# from which"))
         self.refused("image", "make", "bad.toml", "-o", "bad.img", tells="code.seed: is missing", leaves="bad.img")
 

@@ -106,9 +106,13 @@ class SweepTest(ToolTest):
         self.assertEqual((run.returncode, run.stdout[:13]), (0, b"0,greedy,0,0,"), run.stderr)
 
     def test_wrong_plans_are_refused_before_any_run(self):
+        policies = "policy = [\"greedy\", \"oldest\"]"
         cases = (("drive = ", "drive = 3 #", "plan.toml:1: drive: has to be a text"),
                  ("small.toml", "none.toml", "none.toml: No such file"),
-                 ("policy = [\"greedy\", \"oldest\"]", "colour = [1]", "plan.toml:5: values.colour: can't be varied; these can: policy"),
+                 (policies, "colour = [1]", "plan.toml:5: values.colour: can't be varied; these can: policy"),
+                 ("[\"greedy\", \"oldest\"]", "[\"gredy\"]", "values.policy: 'gredy' isn't one of greedy, oldest"),
+                 (policies, "lanes = [true]", "plan.toml:5: values.lanes: True isn't one of 1, 4, 8"),
+                 (policies, "history = [255]", "history: 255 isn't in 256 to 4194304"),
                  ("levels = [[0], [0, -60]]", "levels = []", "values.levels: has to be a list of at least one value"),
                  ("levels = [[0], [0, -60]]", "spread = [0, 5000]", "cells.spread: 5000 isn't in 0 to 4095 (configuration 1)"),
                  ("workload = ", "work = ", "plan.toml:2: work: there is no such field"),

@@ -44,8 +44,9 @@ def read_toml(text, name):
     try:
         return tomllib.loads(text)
     except tomllib.TOMLDecodeError as fault:
+        # A fault at the end of the text is told without a line.
         found = re.search(r"\(at line (\d+)", str(fault))
-        raise InputFault(f"no TOML: {fault}", file=name, line=found and int(found[1])) from None
+        raise InputFault(f"no TOML: {fault}", file=name, line=int(found[1]) if found else len(text.splitlines())) from None
 
 
 class Description:
@@ -156,7 +157,7 @@ def _set_sizes_of_code(given, head, matrix):
 
 def _matrix_of_family(given, head):
     family = given.value("code", "family")
-    if family not in FAMILIES:
+    if not isinstance(family, str) or family not in FAMILIES:
         raise given.fault(f"{family!r} is none of {', '.join(FAMILIES)}, and there is no matrix", "code", "family")
     seed = given.number("code", "seed")
     if seed is None and family in SEEDED:

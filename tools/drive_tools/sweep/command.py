@@ -25,7 +25,8 @@ Runs every configuration of a plan, several side by side, and writes one table i
   levels = [[0], [0, -8, -16]]
   over_provisioning = [20, 50]
 Varied can be policy, lanes and history of ssd, and of the drive spread, erased, programmed, seed, levels, soft_step,
-iterations, over_provisioning, rows and words. An option's default isn't spelled to ssd. A status that isn't 0 stands in its row.
+iterations, over_provisioning, rows and words. An option's default isn't spelled to ssd. A status that isn't 0 stands in its
+row.
 
 A run is a function of its input alone, so the same list of command lines gives the same rows, but for seconds and memory, on
 any machines that have the files and the program: by GNU parallel or as a Slurm array. --header is the first line of the table:

@@ -12,7 +12,15 @@ FIELDS = {
     "spread": "cells", "erased": "cells", "programmed": "cells", "seed": "cells", "levels": "reading",
     "soft_step": "reading", "iterations": "code", "over_provisioning": "sizes", "rows": "sizes", "words": "sizes"}
 OPTIONS = {"policy": "greedy", "lanes": 16, "history": 4194304}
+# The values of the options, as lists or as ranges.
+VALUES = {"policy": ("greedy", "oldest", "roundrobin"), "lanes": (1, 4, 8, 16, 32), "history": range(256, 4194305)}
 MOST_CONFIGURATIONS = 100_000
+
+
+def told_values(name):
+    """The values of an option as text."""
+    values = VALUES[name]
+    return f"in {values[0]} to {values[-1]}" if isinstance(values, range) else f"one of {', '.join(map(str, values))}"
 
 
 class Configuration:
@@ -78,6 +86,9 @@ class Plan:
                 raise self.fault(f"can't be varied; these can: {', '.join([*OPTIONS, *FIELDS])}", f"values.{name}")
             if not isinstance(values, list) or not values:
                 raise self.fault("has to be a list of at least one value", f"values.{name}")
+            for value in values if name in OPTIONS else ():
+                if isinstance(value, (bool, float)) or value not in VALUES[name]:
+                    raise self.fault(f"{value!r} isn't {told_values(name)}", f"values.{name}")
             count *= len(values)
         if count > MOST_CONFIGURATIONS:
             raise self.fault(f"{count} configurations are more than {MOST_CONFIGURATIONS}", "values")
