@@ -2,13 +2,13 @@
 use Rattle.std.proofs.Common.{◌≡◌, ◌∙◌, ℕ, ◌+◌, Bool, true, false, List, refl, sym, ap, Some}
 use Rattle.ssd_geo.specs.Bits.{bytes_sum}
 use Rattle.ssd_geo.specs.BaseMatrix.{BaseMatrix}
-use Rattle.ssd_geo.specs.Coding.{Coding, word_bytes_in}
+use Rattle.ssd_geo.specs.Coding.{Coding, coding_in, word_bytes_in}
 use Rattle.ssd_geo.specs.Ladder.{other_places}
 use Rattle.ssd_geo.specs.StripeSum.{zero_word}
 use Rattle.ssd_geo.specs.declared.look.Look.{Look}
 use Rattle.ssd_geo.specs.declared.place.Place.{Place}
-use Rattle.retry_ladder.specs.Decoder.{coding_in, is_expected}
-use Rattle.retry_ladder.specs.Running.{LadderRun, PlaceStep, at_rest, finds, has_none, misses, other_stepped, page_stepped, place_fed}
+use Rattle.retry_ladder.specs.Decoder.{is_expected}
+use Rattle.retry_ladder.specs.Running.{LadderRun, PlaceRun, PlaceStep, at_rest, finds, goes_on, has_none, misses, other_stepped, page_stepped, place_fed}
 use Rattle.retry_ladder.specs.View.{IsOther, IsPage, LadderView, place_in, places_from, run_at, with_sense}
 use Rattle.retry_ladder.specs.Work.{WorkView}
 use Rattle.retry_ladder.specs.declared.ladder.Stage.{Stage}
@@ -76,6 +76,19 @@ page_after work look matrix limit step =
 abbrev step_of : WorkView → BaseMatrix → ℕ → (List ℕ → Bool) → List ℕ → PlaceStep
 step_of work matrix limit accepts bits =
     place_fed (coding_at work matrix limit) accepts work.run.left work.run bits
+
+pub page_goes_on : (stage : Stage) (work next : WorkView) (look : Look) (sum bits : List ℕ)
+    (matrix : BaseMatrix) (limit : ℕ) (run : PlaceRun)
+    → IsPage (run_at stage work.shape.dies (place_in work.shape look) work sum)
+    → step_of work matrix limit (accepts_at work look) bits ≡ goes_on run
+    → next ≡ record work { run = run; word = next.word }
+    → view_at stage next look sum ≡ with_sense (view_at stage work look sum) matrix limit bits
+page_goes_on Page work next look sum bits matrix limit run h e f =
+    ap (λ (w : WorkView). view_at Page w look sum) f
+    ∙ sym (ap (page_after work look matrix limit) e)
+page_goes_on (Other die) work next look sum bits matrix limit run h e f = absurd h
+page_goes_on (Found other) work next look sum bits matrix limit run h e f = absurd h
+page_goes_on Failed work next look sum bits matrix limit run h e f = absurd h
 
 pub page_finds : (stage : Stage) (work next : WorkView) (look : Look) (sum bits : List ℕ)
     (matrix : BaseMatrix) (limit rung : ℕ)
@@ -157,6 +170,19 @@ other_after work look matrix limit die sum step =
       page =
           (place_in work.shape look).page;
     }) (rest_at work look (die + 1)) sum step)
+
+pub other_goes_on : (stage : Stage) (work next : WorkView) (look : Look) (sum bits : List ℕ) (die : ℕ)
+    (matrix : BaseMatrix) (limit : ℕ) (run : PlaceRun)
+    → IsOther (run_at stage work.shape.dies (place_in work.shape look) work sum) die
+    → step_of work matrix limit (λ word. true) bits ≡ goes_on run
+    → next ≡ record work { run = run; word = next.word }
+    → view_at stage next look sum ≡ with_sense (view_at stage work look sum) matrix limit bits
+other_goes_on (Other own) work next look sum bits die matrix limit run h e f =
+    ap (λ (w : WorkView). view_at (Other own) w look sum) f
+    ∙ sym (ap (other_after work look matrix limit own sum) e)
+other_goes_on Page work next look sum bits die matrix limit run h e f = absurd h
+other_goes_on (Found other) work next look sum bits die matrix limit run h e f = absurd h
+other_goes_on Failed work next look sum bits die matrix limit run h e f = absurd h
 
 pub other_finds : (stage to : Stage) (work next after : WorkView) (look : Look)
     (sum added bits : List ℕ) (die : ℕ) (matrix : BaseMatrix) (limit rung : ℕ)

@@ -184,10 +184,10 @@ runs_are_ladders coding dies look senses =
     let place : Place = place_of_slot dies look.slot in
     let accepts : List ℕ → Bool = coding.has_head look.serial look.row in
     sym (all_steps coding accepts place (other_places dies place) look.closed senses
-    (at_page (place_start coding.levels)) (omega arith))
+    (at_page (place_start coding.levels coding.words)) (omega arith))
     ∙ ap (page_end coding accepts place (other_places dies place) look.closed)
     (place_begins coding accepts senses)
 
 pub runs_go_on : RunsGoOn
 runs_go_on coding dies look senses sense =
-    fold_push (run_fed coding dies look) (at_page (place_start coding.levels)) senses sense
+    fold_push (run_fed coding dies look) (at_page (place_start coding.levels coding.words)) senses sense

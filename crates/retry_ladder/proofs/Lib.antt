@@ -1,9 +1,11 @@
 mod AddedWords
 mod BestLevel
 mod FoundWords
+mod KeptCodes
 mod LadderStages
 mod LadderSteps
 mod NextPlaces
+mod PageCodes
 mod Places
 mod PlaceSteps
 mod PutSenses

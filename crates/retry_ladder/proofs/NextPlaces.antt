@@ -19,7 +19,7 @@ next_is_same own die next e f = grind (arith, nat_tests)
 
 pub goes_to_next : (coding : Coding) (accepts : List ℕ → Bool) (dies : ℕ) (place : Place)
     (die next : ℕ) (sum : List ℕ) (run : PlaceRun)
-    → IsNext place.die die next → next < dies → run ≡ place_start coding.levels
+    → IsNext place.die die next → next < dies → run ≡ place_start coding.levels coding.words
     → at_other (record { die = next; sb = place.sb; page = place.page })
     (places_from dies place (next + 1)) sum run
     ≡ at_rest coding accepts (places_from dies place die) sum

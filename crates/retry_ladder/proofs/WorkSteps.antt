@@ -6,14 +6,15 @@ use Rattle.std.specs.List.{list_all}
 use Rattle.std.proofs.lemmas.List.Folds.{list_all_at}
 use Rattle.ssd_geo.specs.Limits.{is_level}
 use Rattle.ssd_geo.specs.Coding.{Coding}
-use Rattle.ssd_geo.specs.Ladder.{accepted}
+use Rattle.ssd_geo.specs.Ladder.{PageState, page_decoded, partly, whole}
 use Rattle.retry_ladder.specs.Running.{PlaceRun, better, center_of, finds, goes_on, hard_fed, misses, place_fed, soft_fed}
 
--- the run after a sense at a read level that gave no word
-abbrev pub hard_next : Coding → ℤ → List ℤ → PlaceRun → List ℕ → PlaceRun
-hard_next coding level levels run sense = record {
+-- the run after a sense at a read level that gave no word, with what is kept then
+abbrev pub hard_next : Coding → ℤ → List ℤ → PlaceRun → List ℕ → List (Option (List ℕ)) → PlaceRun
+hard_next coding level levels run sense now = record {
   left = levels;
   rung = run.rung + 1;
+  kept = now;
   best = better run.best (level, coding.failed sense);
   five = [];
 }
@@ -31,25 +32,25 @@ at_level coding accepts levels n run sense h =
 
 pub hard_finds : (coding : Coding) (accepts : List ℕ → Bool) (levels : List ℤ) (n : ℕ)
     (run : PlaceRun) (sense word : List ℕ) → n < length levels
-    → accepted accepts (coding.hard sense) ≡ Some word
+    → page_decoded coding accepts (coding.hard sense) run.kept ≡ whole word
     → place_fed coding accepts (drop n levels) run sense ≡ finds run.rung word
 hard_finds coding accepts levels n run sense word h e =
     at_level coding accepts levels n run sense h
-    ∙ ap (λ (o : Option (List ℕ)). elim o [
-      | Some found ↦ finds run.rung found
-      | None ↦ goes_on (hard_next coding (get_or levels n (pos 0)) (drop (n + 1) levels) run sense)
+    ∙ ap (λ (o : PageState). elim o [
+      | whole found ↦ finds run.rung found
+      | partly now ↦ goes_on (hard_next coding (get_or levels n (pos 0)) (drop (n + 1) levels) run sense now)
     ]) e
 
 pub hard_misses : (coding : Coding) (accepts : List ℕ → Bool) (levels : List ℤ) (n : ℕ)
-    (run : PlaceRun) (sense : List ℕ) → n < length levels
-    → accepted accepts (coding.hard sense) ≡ None
+    (run : PlaceRun) (sense : List ℕ) (now : List (Option (List ℕ))) → n < length levels
+    → page_decoded coding accepts (coding.hard sense) run.kept ≡ partly now
     → place_fed coding accepts (drop n levels) run sense
-    ≡ goes_on (hard_next coding (get_or levels n (pos 0)) (drop (n + 1) levels) run sense)
-hard_misses coding accepts levels n run sense h e =
+    ≡ goes_on (hard_next coding (get_or levels n (pos 0)) (drop (n + 1) levels) run sense now)
+hard_misses coding accepts levels n run sense now h e =
     at_level coding accepts levels n run sense h
-    ∙ ap (λ (o : Option (List ℕ)). elim o [
-      | Some found ↦ finds run.rung found
-      | None ↦ goes_on (hard_next coding (get_or levels n (pos 0)) (drop (n + 1) levels) run sense)
+    ∙ ap (λ (o : PageState). elim o [
+      | whole found ↦ finds run.rung found
+      | partly kept ↦ goes_on (hard_next coding (get_or levels n (pos 0)) (drop (n + 1) levels) run sense kept)
     ]) e
 
 -- an element of a list of which all pass
@@ -93,7 +94,8 @@ at_soft coding accepts levels n run sense e =
 
 -- the run after a sense of the soft part that isn't the last of five
 abbrev pub soft_next : PlaceRun → List (List ℕ) → PlaceRun
-soft_next run five = record { left = []; rung = run.rung; best = run.best; five = five }
+soft_next run five =
+    record { left = []; rung = run.rung; kept = run.kept; best = run.best; five = five }
 
 pub soft_goes : (coding : Coding) (accepts : List ℕ → Bool) (run : PlaceRun) (five : List (List ℕ))
     → length five < 5
@@ -101,31 +103,31 @@ pub soft_goes : (coding : Coding) (accepts : List ℕ → Bool) (run : PlaceRun)
 soft_goes coding accepts run five h =
     let few : nat_lt (length five) 5 ≡ true = grind (arith, nat_tests) in
     ap (λ (b : Bool). elim b [
-      | true ↦ goes_on (record { left = []; rung = run.rung; best = run.best; five = five })
-      | false ↦ elim (accepted accepts (coding.soft (take 5 five))) [
-        | Some word ↦ finds (length coding.levels) word
-        | None ↦ misses
+      | true ↦ goes_on (soft_next run five)
+      | false ↦ elim (page_decoded coding accepts (coding.soft (take 5 five)) run.kept) [
+        | whole word ↦ finds (length coding.levels) word
+        | partly now ↦ misses
       ]
     ]) few
 
 pub soft_ends : (coding : Coding) (accepts : List ℕ → Bool) (run : PlaceRun) (five : List (List ℕ))
-    (o : Option (List ℕ)) → length five ≡ 5
-    → accepted accepts (coding.soft five) ≡ o
+    (o : PageState) → length five ≡ 5
+    → page_decoded coding accepts (coding.soft five) run.kept ≡ o
     → soft_fed coding accepts run five ≡ elim o
-    [ Some word ↦ finds (length coding.levels) word | None ↦ misses ]
+    [ whole word ↦ finds (length coding.levels) word | partly now ↦ misses ]
 soft_ends coding accepts run five o h e =
     let all : nat_lt (length five) 5 ≡ false = grind (arith, nat_tests) in
     let taken : take 5 five ≡ five = ap (λ (n : ℕ). take n five) (sym h) ∙ take_all five in
     ap (λ (b : Bool). elim b [
-      | true ↦ goes_on (record { left = []; rung = run.rung; best = run.best; five = five })
-      | false ↦ elim (accepted accepts (coding.soft (take 5 five))) [
-        | Some word ↦ finds (length coding.levels) word
-        | None ↦ misses
+      | true ↦ goes_on (soft_next run five)
+      | false ↦ elim (page_decoded coding accepts (coding.soft (take 5 five)) run.kept) [
+        | whole word ↦ finds (length coding.levels) word
+        | partly now ↦ misses
       ]
     ]) all
-    ∙ ap (λ (found : Option (List ℕ)). elim found
-    [ Some word ↦ finds (length coding.levels) word | None ↦ misses ])
-    (ap (λ (senses : List (List ℕ)). accepted accepts (coding.soft senses)) taken ∙ e)
+    ∙ ap (λ (found : PageState). elim found
+    [ whole word ↦ finds (length coding.levels) word | partly now ↦ misses ])
+    (ap (λ (senses : List (List ℕ)). page_decoded coding accepts (coding.soft senses) run.kept) taken ∙ e)
 
 -- one more sense of the soft part that isn't the last of five
 pub soft_more : (coding : Coding) (accepts : List ℕ → Bool) (levels : List ℤ) (n : ℕ)
@@ -139,11 +141,11 @@ soft_more coding accepts levels n run sense e h =
 
 -- the last sense of the soft part
 pub soft_last : (coding : Coding) (accepts : List ℕ → Bool) (levels : List ℤ) (n : ℕ)
-    (run : PlaceRun) (sense : List ℕ) (o : Option (List ℕ))
+    (run : PlaceRun) (sense : List ℕ) (o : PageState)
     → n ≡ length levels → length (run.five ++ sense ∷ []) ≡ 5
-    → accepted accepts (coding.soft (run.five ++ sense ∷ [])) ≡ o
+    → page_decoded coding accepts (coding.soft (run.five ++ sense ∷ [])) run.kept ≡ o
     → place_fed coding accepts (drop n levels) run sense
-    ≡ elim o [ Some word ↦ finds (length coding.levels) word | None ↦ misses ]
+    ≡ elim o [ whole word ↦ finds (length coding.levels) word | partly now ↦ misses ]
 soft_last coding accepts levels n run sense o e h f =
     at_soft coding accepts levels n run sense e
     ∙ soft_ends coding accepts run (run.five ++ sense ∷ []) o h f

@@ -1,4 +1,5 @@
 pub mod Decoder
+pub mod Kept
 pub mod Ready
 pub mod Running
 pub mod View

@@ -1,22 +1,24 @@
 -- What does a ladder keep of the senses that it was fed? Of a place it keeps which read levels are
--- left, the best level so far with its failed checks, and the senses of the soft part; of a stripe,
--- the sum of the words that were found. No sense of the hard part is kept. What is kept is a fold
--- over the senses, and says what the ladder has come to.
-use Rattle.std.specs.Prelude.{ℕ, ◌≡◌, ◌+◌, nat_lt, Bool, true, false, cond, List, [], ◌∷◌, ◌++◌, length, take, slice_index_or, Option, Some, None, ℤ, pos}
+-- left, the best level so far with its failed checks, the senses of the soft part, and the
+-- codewords that were found; of a stripe, the sum of the words that were found. No sense of the
+-- hard part is kept. What is kept is a fold over the senses, and says what the ladder has come to.
+use Rattle.std.specs.Prelude.{ℕ, ◌≡◌, ◌+◌, nat_lt, Bool, true, false, cond, List, [], ◌∷◌, ◌++◌, length, replicate, take, slice_index_or, Option, Some, None, ℤ, pos}
 use Rattle.std.specs.List.{fold}
 use Rattle.ssd_geo.specs.Bits.{bytes_sum}
 use Rattle.ssd_geo.specs.Coding.{Coding}
-use Rattle.ssd_geo.specs.Ladder.{LadderState, asks, recovered, uncorrectable, accepted, other_places, soft_levels, ladder_over}
+use Rattle.ssd_geo.specs.Ladder.{LadderState, asks, recovered, uncorrectable, other_places, page_decoded, partly, soft_levels, whole, ladder_over}
 use Rattle.ssd_geo.specs.Stripe.{place_of_slot}
 use Rattle.ssd_geo.specs.StripeSum.{zero_word}
 use Rattle.ssd_geo.specs.declared.look.Look.{Look}
 use Rattle.ssd_geo.specs.declared.place.Place.{Place}
 
--- the work on one place: the read levels that are left, the rung of the first of them, the best
--- level so far with its failed checks, and the senses of the soft part
+-- the work on one place: the read levels that are left, the rung of the first of them, the
+-- codewords that are kept, the best level so far with its failed checks, and the senses of the soft
+-- part
 pub record PlaceRun : Type 0 where
   pub left : List ℤ
   pub rung : ℕ
+  pub kept : List (Option (List ℕ))
   pub best : Option (ℤ × ℕ)
   pub five : List (List ℕ)
 
@@ -36,9 +38,10 @@ abbrev pub center_of : Option (ℤ × ℕ) → ℤ
 center_of None = pos 0
 center_of (Some best) = best.0
 
--- the work on a place before its first sense, with these read levels
-abbrev pub place_start : List ℤ → PlaceRun
-place_start levels = record { left = levels; rung = 0; best = None; five = [] }
+-- the work on a place before its first sense, with these read levels and so many codewords
+abbrev pub place_start : List ℤ → ℕ → PlaceRun
+place_start levels words =
+    record { left = levels; rung = 0; kept = replicate words None; best = None; five = [] }
 
 -- the level that the work on a place wants next, with soft senses at this distance
 abbrev pub level_wanted : ℕ → List ℤ → PlaceRun → ℤ
@@ -49,11 +52,12 @@ level_wanted step (level ∷ levels) run = level
 -- one more sense at a read level, with those that are left after it
 abbrev pub hard_fed : Coding → (List ℕ → Bool) → ℤ → List ℤ → PlaceRun → List ℕ → PlaceStep
 hard_fed coding accepts level levels run sense =
-    elim (accepted accepts (coding.hard sense)) [
-      | Some word ↦ finds run.rung word
-      | None ↦ goes_on (record {
+    elim (page_decoded coding accepts (coding.hard sense) run.kept) [
+      | whole word ↦ finds run.rung word
+      | partly now ↦ goes_on (record {
         left = levels;
         rung = run.rung + 1;
+        kept = now;
         best = better run.best (level, coding.failed sense);
         five = [];
       })
@@ -63,10 +67,16 @@ hard_fed coding accepts level levels run sense =
 abbrev pub soft_fed : Coding → (List ℕ → Bool) → PlaceRun → List (List ℕ) → PlaceStep
 soft_fed coding accepts run five =
     elim (nat_lt (length five) 5) [
-      | true ↦ goes_on (record { left = []; rung = run.rung; best = run.best; five = five })
-      | false ↦ elim (accepted accepts (coding.soft (take 5 five))) [
-        | Some word ↦ finds (length coding.levels) word
-        | None ↦ misses
+      | true ↦ goes_on (record {
+        left = [];
+        rung = run.rung;
+        kept = run.kept;
+        best = run.best;
+        five = five;
+      })
+      | false ↦ elim (page_decoded coding accepts (coding.soft (take 5 five)) run.kept) [
+        | whole word ↦ finds (length coding.levels) word
+        | partly now ↦ misses
       ]
     ]
 
@@ -87,7 +97,8 @@ pub data LadderRun : Type 0 where
 abbrev pub at_rest : Coding → (List ℕ → Bool) → List Place → List ℕ → LadderRun
 at_rest coding accepts [] sum =
     elim (accepts sum) [ true ↦ has_page (length coding.levels + 1) sum | false ↦ has_none ]
-at_rest coding accepts (place ∷ places) sum = at_other place places sum (place_start coding.levels)
+at_rest coding accepts (place ∷ places) sum =
+    at_other place places sum (place_start coding.levels coding.words)
 
 -- the page, after one more sense of it
 abbrev pub page_stepped : Coding → (List ℕ → Bool) → List Place → Bool → PlaceStep → LadderRun
@@ -132,7 +143,7 @@ run_fed coding dies look run sense =
 -- a look's ladder after senses, in order
 abbrev pub run_of : Coding → ℕ → Look → List (List ℕ) → LadderRun
 run_of coding dies look senses =
-    fold (run_fed coding dies look) (at_page (place_start coding.levels)) senses
+    fold (run_fed coding dies look) (at_page (place_start coding.levels coding.words)) senses
 
 -- Laws, each the contract of a function without a body.
 

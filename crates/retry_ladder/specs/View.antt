@@ -5,14 +5,13 @@
 use Rattle.std.specs.Prelude.{ℕ, ◌≡◌, ◌+◌, ◌-◌, ◌<◌, ◌==◌, not, List, [], ◌∷◌, ◌++◌, filter, map, Some, ℤ}
 use Rattle.std.specs.List.{range_with_len}
 use Rattle.ssd_geo.specs.BaseMatrix.{BaseMatrix}
-use Rattle.ssd_geo.specs.Coding.{Coding}
+use Rattle.ssd_geo.specs.Coding.{Coding, coding_in}
 use Rattle.ssd_geo.specs.Ladder.{LadderState, asks, recovered, uncorrectable, ladder_over}
 use Rattle.ssd_geo.specs.Stripe.{place_of_slot}
 use Rattle.ssd_geo.specs.Superblock.{slots_of}
 use Rattle.ssd_geo.specs.declared.look.Look.{Look}
 use Rattle.ssd_geo.specs.declared.place.Place.{Place}
 use Rattle.ssd_geo.specs.declared.shape.Shape.{Shape}
-use Rattle.retry_ladder.specs.Decoder.{coding_in}
 use Rattle.retry_ladder.specs.Running.{LadderRun, at_other, at_page, come_to, has_none, has_page, run_fed, run_of}
 use Rattle.retry_ladder.specs.Work.{WorkView}
 use Rattle.retry_ladder.specs.declared.ask.Answer.{Answer}

@@ -4,7 +4,7 @@ ghost use Rattle.ssd_geo.specs.Codewords.{failed_checks, word_bits};
 ghost use Rattle.ssd_geo.specs.Decoding.{decode};
 ghost use Rattle.ssd_geo.specs.RowRule.{IsWithin};
 
-/// Finds the codeword of a page from its senses. It has a base matrix and an iteration limit, which
+/// Finds a codeword from its values. It has a base matrix and an iteration limit, which
 /// no call changes.
 pub trait Decode {
     ghost use Rattle.std.specs.Prelude.{ℕ};

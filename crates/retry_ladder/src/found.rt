@@ -1,13 +1,17 @@
-ghost use Rattle.std.specs.Prelude.{◌≡◌, ◌+◌, ◌*◌, ◌∷◌, ◌++◌, [], map, All, MatchBool, None, Some, length, ◌<◌};
-ghost use Rattle.retry_ladder.specs.Decoder.{IsCodeOf, found_in, is_expected};
+ghost use Rattle.std.specs.Prelude.{◌≡◌, ◌+◌, ◌*◌, ◌∷◌, ◌++◌, [], map, MatchBool, false, length, slice_index_or, ◌<◌, ◌≤◌};
+ghost use Rattle.std.specs.List.{list_all, range_with_len};
+ghost use Rattle.retry_ladder.specs.Decoder.{IsCodeOf, is_expected};
+ghost use Rattle.retry_ladder.specs.Kept.{AreSenses, finds_in, kept_in, page_found};
 ghost use Rattle.ssd_geo.specs.Coding.{word_bytes_in};
-ghost use Rattle.ssd_geo.specs.RowRule.{IsWithin};
-ghost use Rattle.ssd_geo.specs.Senses.{five_senses, hard_values, sense_in, soft_values};
-ghost use Rattle.std.specs.List.{range_with_len};
+ghost use Rattle.ssd_geo.specs.Ladder.{kept_with, partly, whole};
+ghost use Rattle.ssd_geo.specs.Limits.{code_bytes_of};
+ghost use Rattle.ssd_geo.specs.Senses.{sense_in};
+ghost use Rattle.ssd_geo.specs.Shape.{sizes_of};
 
 use crate::Decode;
+use crate::codeword::keep_code;
+use crate::part::Part;
 use page_head::payload_of;
-use soft_sense::{hard_values, soft_values};
 use ssd_geo::Shape;
 
 // Whether a word has the head of a serial and a row, where one is expected.
@@ -21,78 +25,77 @@ pub(crate) fn is_expected(shape: &Shape, head: Option<(u64, u32)>, word: &[u8]) 
     }
 }
 
-// Whether the decoder finds a word that is expected, which is then in `word`.
-pub(crate) fn is_found<C: Decode>(
+// Decodes the codewords of a page that aren't kept, and keeps those that are found.
+fn keep_found<C: Decode>(
     decoder: &mut C,
     shape: &Shape,
-    head: Option<(u64, u32)>,
-    values: &[i8],
+    part: Part,
+    senses: &[u8],
+    bits: &mut [u8],
+    values: &mut [i8],
+    kept: &mut [bool],
     word: &mut [u8],
-) -> bool
+)
     requires code { IsCodeOf shape.now (C.matrix decoder.old) }
-    requires values_len { length values.now ≡ 8 * word_bytes_in shape.now }
-    requires values_within { All (IsWithin 127) values.now }
+    requires senses { AreSenses part (word_bytes_in shape.now) senses.now }
+    requires bits_len { length bits.old ≡ 5 * code_bytes_of (sizes_of shape.now) }
+    requires values_len { length values.old ≡ 8 * code_bytes_of (sizes_of shape.now) }
+    requires flags { length kept.old ≡ 4 }
     requires word_len { length word.old ≡ word_bytes_in shape.now }
-    ensures answer { let values = values.now in
-        let found = found_in (C.matrix decoder.old) (C.limit decoder.old) shape.now head values in
-        MatchBool result (found ≡ Some word.new) (found ≡ None) }
-    ensures word_len { length word.new ≡ length word.old }
+    ensures kept { kept_in (sizes_of shape.now) kept.new word.new
+        ≡ kept_with (finds_in (sizes_of shape.now) (C.matrix decoder.old) (C.limit decoder.old) part senses.now) 0
+        (kept_in (sizes_of shape.now) kept.old word.old) }
     ensures matrix { C.matrix decoder.new ≡ C.matrix decoder.old }
     ensures limit { C.limit decoder.new ≡ C.limit decoder.old }
 {
-    decoder.decode(values, word).is_some() && is_expected(shape, head, word)
+    for f in 0..shape.words {
+        keep_code(decoder, shape, part, senses, f, bits, values, kept, word);
+    }
 }
 
-// Whether the decoder finds an expected word from one sense, by hard values.
-pub(crate) fn is_found_hard<C: Decode>(
-    decoder: &mut C,
-    shape: &Shape,
-    head: Option<(u64, u32)>,
-    bits: &[u8],
-    values: &mut [i8],
-    word: &mut [u8],
-) -> bool
-    requires code { IsCodeOf shape.now (C.matrix decoder.old) }
-    requires bits_len { length bits.now ≡ word_bytes_in shape.now }
-    requires values_len { length values.old ≡ 8 * word_bytes_in shape.now }
-    requires word_len { length word.old ≡ word_bytes_in shape.now }
-    ensures answer { let values = hard_values bits.now in
-        let found = found_in (C.matrix decoder.old) (C.limit decoder.old) shape.now head values in
-        MatchBool result (found ≡ Some word.new) (found ≡ None) }
-    ensures values_len { length values.new ≡ length values.old }
-    ensures word_len { length word.new ≡ length word.old }
-    ensures matrix { C.matrix decoder.new ≡ C.matrix decoder.old }
-    ensures limit { C.limit decoder.new ≡ C.limit decoder.old }
+// Whether all of a page's codewords are kept.
+fn are_kept(words: u8, kept: &[bool]) -> bool
+    requires { words ≤ length kept.now }
+    ensures { result ≡ list_all (λ f. slice_index_or kept.now f false) (range_with_len 0 words) }
 {
-    hard_values(bits, values);
-    is_found(decoder, shape, head, values, word)
+    (0..words).all(|f| kept[f as usize])
 }
 
-// Whether the decoder finds an expected word from five senses, which stand one after the other, by
-// soft values.
-pub(crate) fn is_found_soft<C: Decode>(
+// Decodes the codewords of a page that aren't kept, and answers whether all of them are kept then and
+// their word, which stands in `word`, is expected. Where it isn't, none is kept.
+pub(crate) fn is_page_found<C: Decode>(
     decoder: &mut C,
     shape: &Shape,
     head: Option<(u64, u32)>,
-    five: &[u8],
+    part: Part,
+    senses: &[u8],
+    bits: &mut [u8],
     values: &mut [i8],
+    kept: &mut [bool],
     word: &mut [u8],
 ) -> bool
     requires code { IsCodeOf shape.now (C.matrix decoder.old) }
-    requires five_len { length five.now ≡ 5 * word_bytes_in shape.now }
-    requires values_len { length values.old ≡ 8 * word_bytes_in shape.now }
+    requires senses { AreSenses part (word_bytes_in shape.now) senses.now }
+    requires bits_len { length bits.old ≡ 5 * code_bytes_of (sizes_of shape.now) }
+    requires values_len { length values.old ≡ 8 * code_bytes_of (sizes_of shape.now) }
+    requires flags { length kept.old ≡ 4 }
     requires word_len { length word.old ≡ word_bytes_in shape.now }
-    ensures answer { let bytes = word_bytes_in shape.now in
-        let values = soft_values bytes (five_senses bytes five.now) in
-        let found = found_in (C.matrix decoder.old) (C.limit decoder.old) shape.now head values in
-        MatchBool result (found ≡ Some word.new) (found ≡ None) }
-    ensures values_len { length values.new ≡ length values.old }
-    ensures word_len { length word.new ≡ length word.old }
+    ensures answer { let old_kept = kept_in (sizes_of shape.now) kept.old word.old in
+        let new_kept = kept_in (sizes_of shape.now) kept.new word.new in
+        let found = page_found shape.now (C.matrix decoder.old) (C.limit decoder.old) head part senses.now old_kept in
+        MatchBool result (found ≡ whole word.new) (found ≡ partly new_kept) }
     ensures matrix { C.matrix decoder.new ≡ C.matrix decoder.old }
     ensures limit { C.limit decoder.new ≡ C.limit decoder.old }
 {
-    soft_values(five, shape.word_bytes(), values);
-    is_found(decoder, shape, head, values, word)
+    keep_found(decoder, shape, part, senses, bits, values, kept, word);
+    if !are_kept(shape.words, kept) {
+        return false;
+    }
+    if is_expected(shape, head, word) {
+        return true;
+    }
+    kept.fill(false);
+    false
 }
 
 // Puts a sense after so many others.

@@ -1,11 +1,11 @@
 ghost use Rattle.std.specs.Prelude.{◌≡◌, ℕ, ◌+◌, ◌≤◌, not, IfOk, IsTrue, Some, length};
 ghost use Rattle.std.specs.List.{list_all};
-ghost use Rattle.retry_ladder.specs.Decoder.{IsCodeOf, coding_in, is_expected};
+ghost use Rattle.retry_ladder.specs.Decoder.{IsCodeOf, is_expected};
 ghost use Rattle.retry_ladder.specs.Running.{at_page, at_rest, has_none, place_start};
 ghost use Rattle.retry_ladder.specs.View.{IsAnswerOf, IsAskOf, IsLookIn, IsOther, IsPage, place_in, places_from, run_at, state_in, with_sense};
 ghost use Rattle.retry_ladder.specs.Ready.{HoldsAt};
 ghost use Rattle.ssd_geo.specs.BaseMatrix.{BaseMatrix};
-ghost use Rattle.ssd_geo.specs.Coding.{data_in, word_bytes_in};
+ghost use Rattle.ssd_geo.specs.Coding.{coding_in, data_in, word_bytes_in};
 ghost use Rattle.ssd_geo.specs.Ladder.{has_answer, is_recovered, word_recovered};
 ghost use Rattle.ssd_geo.specs.Limits.{is_level};
 
@@ -90,7 +90,10 @@ impl Ladder {
     pub fn begin(&mut self, look: &Look)
         requires { IsLookIn self.old.shape look.now }
         ensures { self.new
-            ≡ record self.old { look = look.now; run = at_page (place_start self.old.levels) } }
+            ≡ record self.old {
+              look = look.now;
+              run = at_page (place_start self.old.levels self.old.shape.words);
+            } }
     {
         self.work.begin();
         self.look = *look;
@@ -202,7 +205,7 @@ impl Ladder {
         }
     }
 
-    // One more sense of another page of the stripe. Any codeword counts.
+    // One more sense of another page of the stripe. Any word counts whose codewords are all kept.
     fn feed_other<C: Decode>(&mut self, decoder: &mut C, bits: &[u8], die: u8)
         requires other { IsOther self.old.run die }
         requires code { IsCodeOf self.old.shape (C.matrix decoder.old) }

@@ -4,10 +4,12 @@
 
 mod ask;
 mod best;
+mod codeword;
 mod decode;
 mod found;
 mod ladder;
 mod ladder_laws;
+mod part;
 mod place_work;
 mod step;
 

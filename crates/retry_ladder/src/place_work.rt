@@ -8,13 +8,17 @@ ghost use Rattle.ssd_geo.specs.Limits.{is_level};
 
 use crate::Decode;
 use crate::best::{better, center_of, soft_level};
-use crate::found::{is_found_hard, is_found_soft, put_sense};
+use crate::codeword::failed_of;
+use crate::found::{is_page_found, put_sense};
+use crate::part::Part;
 use crate::step::Step;
 use ssd_geo::{Items, Memory, Shape};
 use std::alloc::Global;
 use std::marker::Model;
 
 // The work on one place: hard values at each read level, then soft values around the best of them.
+// The codewords that were found are kept in the page's word, each with its flag, and the others are
+// decoded at each sense.
 #[derive(Drop)]
 pub(crate) struct PlaceWork {
     shape: Shape,
@@ -23,7 +27,9 @@ pub(crate) struct PlaceWork {
     rung: u8,
     best: Option<(i16, u32)>,
     count: u8,
+    kept: [bool; 4],
     five: Vec<u8>,
+    bits: Vec<u8>,
     values: Vec<i8>,
     word: Vec<u8>,
 }
@@ -52,12 +58,13 @@ impl PlaceWork {
         ensures shape { IfOk result (λ work. work.shape ≡ shape) }
         ensures levels { IfOk result (λ work. work.levels ≡ read_levels) }
         ensures step { IfOk result (λ work. work.step ≡ step) }
-        ensures run { IfOk result (λ work. work.run ≡ place_start read_levels) }
+        ensures run { IfOk result (λ work. work.run ≡ place_start read_levels shape.words) }
         ensures word { IfOk result (λ work. length work.word ≡ word_bytes_in shape) }
     {
         let bytes = shape.word_bytes();
         let five = vec![in alloc; 0u8; 5 * bytes].map_err(|_| Memory)?;
-        let values = vec![in alloc; 0i8; 8 * bytes].map_err(|_| Memory)?;
+        let bits = vec![in alloc; 0u8; 5 * shape.code_bytes()].map_err(|_| Memory)?;
+        let values = vec![in alloc; 0i8; 8 * shape.code_bytes()].map_err(|_| Memory)?;
         let word = vec![in alloc; 0u8; bytes].map_err(|_| Memory)?;
         Ok(PlaceWork {
             shape,
@@ -66,7 +73,9 @@ impl PlaceWork {
             rung: 0,
             best: None,
             count: 0,
+            kept: [false; 4],
             five,
+            bits,
             values,
             word,
         })
@@ -74,11 +83,13 @@ impl PlaceWork {
 
     // Begins the work on a place.
     pub(crate) fn begin(&mut self)
-        ensures { self.new ≡ record self.old { run = place_start self.old.levels } }
+        ensures { self.new
+            ≡ record self.old { run = place_start self.old.levels self.old.shape.words } }
     {
         self.rung = 0;
         self.best = None;
         self.count = 0;
+        self.kept = [false; 4];
     }
 
     // The level that the work wants next.
@@ -103,7 +114,7 @@ impl PlaceWork {
     // Keeps a word in the place of the latest one.
     pub(crate) fn set_word(&mut self, word: &[u8])
         requires { length word.now ≡ word_bytes_in self.old.shape }
-        ensures { self.new ≡ record self.old { word = word.now } }
+        ensures { self.new ≡ record self.old { run = self.new.run; word = word.now } }
     {
         self.word.copy_from_slice(word);
     }
@@ -123,7 +134,7 @@ impl PlaceWork {
         self.read_levels.len() as u8
     }
 
-    // One more sense. A word counts where it is expected.
+    // One more sense. A page's word counts where it is expected.
     pub(crate) fn feed<C: Decode>(
         &mut self,
         decoder: &mut C,
@@ -160,17 +171,21 @@ impl PlaceWork {
         ensures limit { C.limit decoder.new ≡ C.limit decoder.old }
     {
         let level = self.level();
-        if is_found_hard(
+        if is_page_found(
             decoder,
             &self.shape,
             head,
+            Part::Hard,
             bits,
+            &mut self.bits,
             &mut self.values,
+            &mut self.kept,
             &mut self.word,
         ) {
             return Step::Finds { rung: self.rung };
         }
-        self.best = Some(better(self.best, level, decoder.failed(bits)));
+        let failed = failed_of(decoder, &self.shape, bits, &mut self.bits);
+        self.best = Some(better(self.best, level, failed));
         self.rung += 1;
         Step::GoesOn
     }
@@ -195,12 +210,15 @@ impl PlaceWork {
             self.count += 1;
             return Step::GoesOn;
         }
-        if is_found_soft(
+        if is_page_found(
             decoder,
             &self.shape,
             head,
+            Part::Soft,
             &self.five,
+            &mut self.bits,
             &mut self.values,
+            &mut self.kept,
             &mut self.word,
         ) {
             return Step::Finds { rung: self.rung };

@@ -1,8 +1,9 @@
 use Rattle.std.proofs.Common.{◌≡◌, ◌∙◌, ap, sym, subst, ℕ, ◌+◌, ◌≤◌, ◌<◌, true, false, length, Some}
+use Rattle.ssd_geo.specs.Coding.{coding_in}
 use Rattle.ssd_geo.specs.Stripe.{place_of_slot}
 use Rattle.ssd_geo.specs.declared.place.Place.{Place}
 use Rattle.ssd_geo.specs.declared.shape.Shape.{Shape}
-use Rattle.retry_ladder.specs.Decoder.{coding_in, is_expected}
+use Rattle.retry_ladder.specs.Decoder.{is_expected}
 use Rattle.retry_ladder.specs.Running.{has_page}
 use Rattle.retry_ladder.specs.View.{place_in}
 use Rattle.retry_ladder.specs.Work.{WorkView}

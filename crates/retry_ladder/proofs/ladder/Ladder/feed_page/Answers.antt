@@ -1,10 +1,10 @@
 use Rattle.std.proofs.Common.{◌≡◌, ◌∙◌, ap, sym, subst, Some, true}
-use Rattle.ssd_geo.specs.Coding.{word_bytes_in}
+use Rattle.ssd_geo.specs.Coding.{coding_in, word_bytes_in}
 use Rattle.ssd_geo.specs.declared.shape.Shape.{Shape}
-use Rattle.retry_ladder.specs.Decoder.{coding_in, is_expected}
+use Rattle.retry_ladder.specs.Decoder.{is_expected}
 use Rattle.retry_ladder.specs.Work.{WorkView}
 use Rattle.retry_ladder.proofs.FoundWords.{fed_passes}
-use Rattle.retry_ladder.proofs.LadderStages.{page_finds, page_open, page_rest}
+use Rattle.retry_ladder.proofs.LadderStages.{page_finds, page_goes_on, page_open, page_rest}
 use Rattle.retry_ladder.proofs.ladder.Ladder.feed_page.Goals as goal
 
 pub invariant_of-self-in-Finds : goal.invariant_of-self-in-Finds
@@ -23,6 +23,14 @@ invariant_of-self-in-Finds g c =
           c.args.bits.now c.in-Finds.rung c.feed.new.self.word
           c.in-Finds.ensures.step.0);
     }
+
+pub returns-in-GoesOn-clause-fed : goal.returns-in-GoesOn-clause-fed
+returns-in-GoesOn-clause-fed g c =
+    let page = rw (← c.self.view_is) at c.requires.page in
+    rw (← c.self.view_is) (page_goes_on c.self.inside.stage c.self.inside.work c.feed.new.self
+    c.self.inside.look c.self.inside.sum c.args.bits.now
+    (g.C.Decode.matrix c.args.decoder.now) (g.C.Decode.limit c.args.decoder.now) c.in-GoesOn.ensures.step.0
+    page c.in-GoesOn.ensures.step.1 c.in-GoesOn.ensures.step.2)
 
 pub returns-in-Finds-clause-fed : goal.returns-in-Finds-clause-fed
 returns-in-Finds-clause-fed g c =

@@ -1,10 +1,14 @@
-use Rattle.std.proofs.Common.{◌≡◌, ◌∙◌, ap, refl, sym, arith, List, [], ◌∷◌, ◌++◌, drop, ◌+◌, map, Some, None, ℕ, ℤ}
+use Rattle.std.proofs.Common.{◌≡◌, ◌∙◌, ap, refl, sym, arith, List, [], ◌∷◌, ◌++◌, drop, ◌+◌, map, ℕ, ℤ}
 use Rattle.std.specs.List.{range_with_len}
 use Rattle.std.specs.Vec.{with_items}
 use Rattle.std.proofs.lemmas.List.{with_items_is}
-use Rattle.ssd_geo.specs.Coding.{Coding, word_bytes_in}
-use Rattle.ssd_geo.specs.Senses.{five_senses, sense_in, soft_values}
-use Rattle.retry_ladder.specs.Decoder.{coding_in, found_in, is_expected}
+use Rattle.ssd_geo.specs.Coding.{Coding, coding_in, found_soft, word_bytes_in}
+use Rattle.ssd_geo.specs.Ladder.{page_decoded, partly, whole}
+use Rattle.ssd_geo.specs.Senses.{five_senses, sense_in}
+use Rattle.ssd_geo.specs.Shape.{sizes_of}
+use Rattle.retry_ladder.specs.Decoder.{is_expected}
+use Rattle.retry_ladder.specs.Kept.{kept_in, page_found}
+use Rattle.retry_ladder.specs.declared.part.Part.TheVariants.{Soft}
 use Rattle.retry_ladder.specs.Running.{finds}
 use Rattle.retry_ladder.specs.Work.{WorkView, run_in}
 use Rattle.retry_ladder.specs.declared.place_work.PlaceWork.TheInside.{Inside}
@@ -18,7 +22,13 @@ next_view a left five = record {
   shape = a.shape;
   levels = a.read_levels;
   step = a.step;
-  run = record { left = left; rung = a.rung; best = a.best; five = five };
+  run = record {
+    left = left;
+    rung = a.rung;
+    kept = kept_in (sizes_of a.shape) a.kept a.word.items;
+    best = a.best;
+    five = five;
+  };
   word = a.word.items;
 }
 
@@ -52,8 +62,8 @@ returns-then-self-lt4-clause-step g c =
           ∙ senses),
     )
 
-pub returns-then-is_found_soft-clause-step : goal.returns-then-is_found_soft-clause-step
-returns-then-is_found_soft-clause-step g c =
+pub returns-then-is_page_found-clause-step : goal.returns-then-is_page_found-clause-step
+returns-then-is_page_found-clause-step g c =
     let over = rw (← c.self.view_is) at c.requires.soft in
     let bits = rw (← c.self.view_is) at c.requires.bits in
     let a = c.self.inside in
@@ -71,17 +81,19 @@ returns-then-is_found_soft-clause-step g c =
     ∙ ap (λ (k : ℕ). map (sense_in n c.put_sense.new.five) (range_with_len 0 k)) all
     ∙ soft_senses n a.count a.five.items _ c.put_sense.new.five c.args.bits.now bits
     c.deref_mut.ensures.value c.put_sense.ensures.senses in
-    let word_is = with_items_is a.word c.is_found_soft.new.word
-    (omega (arith, c.is_found_soft.ensures.word_len, c.deref_mut-3.ensures.len)) in
+    let word_is = with_items_is a.word c.is_page_found.new.word
+    (omega (arith, c.is_page_found.auto.word, c.deref_mut-4.ensures.len)) in
     rw (← c.self.view_is) (
       soft_last coding (is_expected a.shape c.args.head) a.read_levels a.rung (run_in a)
           c.args.bits.now
-          (Some c.is_found_soft.new.word) over
+          (whole c.is_page_found.new.word) over
           (omega (arith, soft_count n a.count a.five.items c.args.bits.now, all))
-          (ap (λ (s : List (List ℕ)). found_in matrix limit a.shape c.args.head (soft_values n s))
-          (sym five_is)
-          ∙ c.if-is_found_soft.ensures.answer)
-          ∙ ap (λ (rung : ℕ). finds rung c.is_found_soft.new.word) (sym over)
+          (ap (λ (s : List (List ℕ)). page_decoded coding (is_expected a.shape c.args.head)
+          (found_soft (sizes_of a.shape) matrix limit s) (run_in a).kept) (sym five_is)
+          ∙ ap (λ (w : List ℕ). page_found a.shape matrix limit c.args.head Soft c.deref.result.now
+          (kept_in (sizes_of a.shape) a.kept w)) (sym c.deref_mut-4.ensures.value)
+          ∙ c.if-is_page_found.ensures.answer)
+          ∙ ap (λ (rung : ℕ). finds rung c.is_page_found.new.word) (sym over)
           ∙ ap (finds a.rung) (sym word_is),
       refl,
     )
@@ -108,9 +120,11 @@ returns-clause-step g c =
     rw (← c.self.view_is) (
       soft_last coding (is_expected a.shape c.args.head) a.read_levels a.rung (run_in a)
           c.args.bits.now
-          None over (omega (arith, soft_count n a.count a.five.items c.args.bits.now, all))
-          (ap (λ (s : List (List ℕ)). found_in matrix limit a.shape c.args.head (soft_values n s))
-          (sym five_is)
-          ∙ c.if-is_found_soft.ensures.answer),
+          (partly (kept_in (sizes_of a.shape) c.is_page_found.new.kept c.is_page_found.new.word)) over (omega (arith, soft_count n a.count a.five.items c.args.bits.now, all))
+          (ap (λ (s : List (List ℕ)). page_decoded coding (is_expected a.shape c.args.head)
+          (found_soft (sizes_of a.shape) matrix limit s) (run_in a).kept) (sym five_is)
+          ∙ ap (λ (w : List ℕ). page_found a.shape matrix limit c.args.head Soft c.deref.result.now
+          (kept_in (sizes_of a.shape) a.kept w)) (sym c.deref_mut-4.ensures.value)
+          ∙ c.if-is_page_found.ensures.answer),
       refl,
     )
