@@ -14,3 +14,7 @@ quad_level law bits noise l = aim_of_bit law (bit_at bits l == 1) +ℤ noise_of_
 -- the levels of the four
 abbrev pub quad_levels : CellLaw → ℕ → ℕ → List ℤ
 quad_levels law bits noise = map (quad_level law bits noise) (range_with_len 0 4)
+
+-- the four parts of a word of noise, of 16 bits each
+abbrev pub parts_of : ℕ → List ℕ
+parts_of noise = map (λ l. noise / 2 ^ (16 * l) % 2 ^ 16) (range_with_len 0 4)
