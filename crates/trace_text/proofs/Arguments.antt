@@ -2,12 +2,12 @@
 use Rattle.std.proofs.Common.{◌≡◌, refl, ap, sym, ℕ, ◌||◌, Bool, true, false, cond, List, [], ◌∷◌, Result, Ok, Err}
 use Rattle.std.specs.Prelude.{bytes_eq, codes}
 use Rattle.ssd_formats.specs.Fields.{◌>>=◌}
-use Rattle.ssd_formats.specs.ImageHead.{Sizes}
+use Rattle.ssd_geo.specs.Limits.{Sizes}
 use Rattle.ssd_formats.specs.InputFaults.{TraceFault}
 use Rattle.ssd_formats.specs.Numbers.{Text}
 use Rattle.ssd_geo.specs.declared.trace.Verb.{Verb}
 use Rattle.ssd_geo.specs.declared.trace.Verb.TheVariants.{Age}
-use Rattle.ssd_formats.specs.TraceText.{age_call_of, page_call_of, verb_of, write_call_of, bounded_word, ranged_word, page_word, content_word}
+use Rattle.ssd_formats.specs.TraceText.{age_call_of, page_call_of, verb_of, write_call_of, bounded_word, ranged_word}
 use Rattle.trace_text.specs.Arguments.{age_with, other_verb_of, write_with}
 use Rattle.trace_text.specs.WordsLeft.{four_words, only_page_of, two_words}
 

@@ -1,8 +1,8 @@
 -- The lines that are due, taken one after the other.
-use Rattle.std.proofs.Common.{◌≡◌, refl, sym, ap, ◌∙◌, ℕ, ◌+◌, ◌<◌, ◌≤◌, Bool, true, false, cond, not, List, [], ◌∷◌, ◌++◌, Result, Ok, Err, arith, rules}
+use Rattle.std.proofs.Common.{◌≡◌, refl, ℕ, ◌+◌, Bool, true, false, cond, not, List, [], ◌∷◌, Result, Ok, Err}
 use Rattle.ssd_formats.specs.Fields.{◌>>=◌}
-use Rattle.ssd_formats.specs.ImageHead.{Sizes}
-use Rattle.ssd_formats.specs.InputFaults.{TraceFault, first, long}
+use Rattle.ssd_geo.specs.Limits.{Sizes}
+use Rattle.ssd_formats.specs.InputFaults.{TraceFault, long}
 use Rattle.ssd_formats.specs.Lines.{Line, is_skipped}
 use Rattle.ssd_formats.specs.TraceText.{at_line, calls_of_lines, calls_with, first_of_line, is_short_line, trace_of_lines}
 use Rattle.ssd_geo.specs.declared.trace.Trace.{Trace}

@@ -1,16 +1,15 @@
 -- What each accepted trace has, by induction on its lines.
-use Rattle.std.proofs.Common.{◌≡◌, refl, ◌+◌, ◌*◌, ◌-◌, ◌^◌, ◌<◌, ◌≤◌, ℕ, Bool, true, false, cond, List, [], ◌∷◌, ◌++◌, length, Option, Some, None, Result, Ok, Err, nat_lt, nat_le, nat_eq, not, ◌&&◌, ap, sym, ◌∙◌, subst, arith, rules, append_assoc, append-nil}
-use Rattle.std.specs.Prelude.{All, ok_or, option_and_then, option_map, codes, bytes_eq, count_by}
+use Rattle.std.proofs.Common.{◌≡◌, refl, ◌+◌, ◌*◌, ◌-◌, ◌^◌, ◌<◌, ◌≤◌, ℕ, Bool, true, false, cond, List, [], ◌∷◌, ◌++◌, length, Some, None, Result, Ok, Err, nat_lt, nat_le, nat_eq, not, ◌&&◌, ap, sym, ◌∙◌, subst, arith, append_assoc, append-nil}
+use Rattle.std.specs.Prelude.{All, ok_or, option_and_then, option_map, codes, bytes_eq}
 use Rattle.std.proofs.lemmas.Grind.{common_steps}
 use Rattle.std.proofs.lemmas.List.Elements.{All-cons, All-nil}
 use Rattle.ssd_formats.specs.Fields.{◌>>=◌, passing}
-use Rattle.ssd_geo.specs.Limits.{is_within}
-use Rattle.ssd_formats.specs.ImageHead.{Sizes}
+use Rattle.ssd_geo.specs.Limits.{Sizes, is_within}
 use Rattle.ssd_formats.specs.InputFaults.{TraceFault}
 use Rattle.ssd_formats.specs.InputFaults as faults
 use Rattle.ssd_formats.specs.Lines.{Line, lines_in, is_skipped}
 use Rattle.ssd_formats.specs.Numbers.{Text, bytes_of_hex, hex_digit, number_below, number_of_text}
-use Rattle.ssd_formats.specs.TraceText.{pages_of_drive, number_word, ranged_word, bounded_word, page_word, listed_content, words_content, content_of_text, content_word, write_call_of, page_call_of, collect_call_of, drain_call_of, age_call_of, verb_of, actor_word, call_of_words, is_of_actor, numbered_after, are_few_calls, is_read_call, most_calls, most_bytes_read, is_short_line, line_words, actors_of_words, first_of_line, calls_with, at_line, calls_of_lines, trace_of_lines, read_trace}
+use Rattle.ssd_formats.specs.TraceText.{pages_of_drive, number_word, ranged_word, bounded_word, page_word, listed_content, words_content, content_of_text, content_word, write_call_of, page_call_of, collect_call_of, drain_call_of, age_call_of, verb_of, actor_word, call_of_words, numbered_after, are_few_calls, most_calls, is_short_line, line_words, actors_of_words, first_of_line, calls_with, at_line, calls_of_lines, trace_of_lines}
 use Rattle.ssd_geo.specs.declared.trace.Content.{Content}
 use Rattle.ssd_geo.specs.declared.trace.Content.TheVariants.{Listed, Words}
 use Rattle.ssd_geo.specs.declared.trace.Trace.{Trace}

@@ -1,18 +1,18 @@
 -- What the definition of traces reads, step by step as the lines are taken.
-use Rattle.std.proofs.Common.{◌≡◌, refl, sym, ap, ◌∙◌, subst, ℕ, ◌+◌, List, [], ◌∷◌, ◌++◌, Option, Some, None, Result, Ok, Err, arith, rules}
+use Rattle.std.proofs.Common.{◌≡◌, ap, ◌∙◌, ℕ, ◌+◌, List, [], Option, Some, None, Result, Ok}
 use Rattle.ssd_formats.specs.Fields.{◌>>=◌}
-use Rattle.ssd_formats.specs.ImageHead.{Sizes}
+use Rattle.ssd_geo.specs.Limits.{Sizes}
 use Rattle.ssd_formats.specs.InputFaults.{TraceFault}
 use Rattle.ssd_formats.specs.Lines.{Line, lines_in}
-use Rattle.ssd_formats.specs.TraceText.{at_line, calls_of_lines, calls_with, read_trace, trace_of_lines}
+use Rattle.ssd_formats.specs.TraceText.{at_line, calls_of_lines, calls_with, read_trace}
 use Rattle.ssd_geo.specs.declared.trace.Trace.{Trace}
 use Rattle.ssd_geo.specs.declared.trace.TraceCall.{TraceCall}
 use Rattle.image_file.specs.declared.stop.ReadStop.{ReadStop}
 use Rattle.image_file.specs.declared.stop.ReadStop.TheVariants.{Fault as FaultAt, ReadFault, DieFailed, Memory as MemoryAt}
-use Rattle.trace_text.specs.Answers.{StopsAt, named_fault}
+use Rattle.trace_text.specs.Answers.{StopsAt}
 use Rattle.ssd_io.specs.Told.{IsTold, told_bytes}
 use Rattle.trace_text.specs.BytesAhead.{IsOver, lines_ahead}
-use Rattle.trace_text.specs.DueLines.{NextLine, due, ended, due_line, StopsReading}
+use Rattle.trace_text.specs.DueLines.{due, ended, due_line, StopsReading}
 use Rattle.trace_text.specs.ReadTraces.{Begun, begun_of, stop_in_line}
 use Rattle.trace_text.specs.declared.fault.LineStop.{LineStop}
 use Rattle.trace_text.specs.declared.fault.LineStop.TheVariants.{Fault, Memory}

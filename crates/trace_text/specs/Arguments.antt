@@ -1,7 +1,7 @@
 -- What do the arguments of a verb give, once their number was tested?
 use Rattle.std.specs.Prelude.{ℕ, ◌||◌, if◌then◌else◌, List, bytes_eq, codes, Result, Ok, Err}
 use Rattle.ssd_formats.specs.Fields.{◌>>=◌}
-use Rattle.ssd_formats.specs.ImageHead.{Sizes}
+use Rattle.ssd_geo.specs.Limits.{Sizes}
 use Rattle.ssd_formats.specs.InputFaults.{TraceFault, verb}
 use Rattle.ssd_formats.specs.Numbers.{Text}
 use Rattle.ssd_formats.specs.TraceText.{age_call_of, bounded_word, collect_call_of, content_word, drain_call_of, page_call_of, page_word, ranged_word}

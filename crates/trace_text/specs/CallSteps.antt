@@ -1,6 +1,5 @@
 -- What does a call add to those before it? It is numbered after them, or there are too many then.
 use Rattle.std.specs.Prelude.{◌≡◌, ℕ, ◌+◌, ◌*◌, if◌then◌else◌, nat_le, Bool, true, false, ◌&&◌, List, [], ◌∷◌, ◌++◌, length, count_by, Result, Ok, Err}
-use Rattle.ssd_formats.specs.ImageHead.{Sizes}
 use Rattle.ssd_formats.specs.InputFaults.{long}
 use Rattle.ssd_formats.specs.TraceText.{is_read_call, is_read_verb, most_bytes_read, most_calls, numbered_after}
 use Rattle.ssd_geo.specs.declared.trace.TraceCall.{TraceCall}

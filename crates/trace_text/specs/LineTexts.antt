@@ -1,7 +1,7 @@
 -- What does the text of a line that isn't skipped give? A line is its text and what it takes, and only the text counts here.
 use Rattle.std.specs.Prelude.{◌≡◌, ℕ, List, length, Result, Ok, Err}
 use Rattle.ssd_formats.specs.Fields.{◌>>=◌}
-use Rattle.ssd_formats.specs.ImageHead.{Sizes}
+use Rattle.ssd_geo.specs.Limits.{Sizes}
 use Rattle.ssd_formats.specs.InputFaults.{TraceFault}
 use Rattle.ssd_formats.specs.Lines.{Line}
 use Rattle.ssd_formats.specs.Numbers.{Text}

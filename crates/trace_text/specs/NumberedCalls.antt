@@ -1,7 +1,7 @@
 -- What has each trace that is read? From 1 to 32 actors and at most 2^20 calls; an actor's calls are numbered from 0 in
 -- their order, and each argument is within its range.
-use Rattle.std.specs.Prelude.{◌≡◌, ℕ, ◌*◌, ◌^◌, ◌<◌, ◌≤◌, List, [], ◌∷◌, ◌++◌, length, count_by, Ok, All}
-use Rattle.ssd_formats.specs.ImageHead.{Sizes}
+use Rattle.std.specs.Prelude.{◌≡◌, ℕ, ◌^◌, ◌<◌, ◌≤◌, List, [], ◌∷◌, ◌++◌, length, count_by, Ok, All}
+use Rattle.ssd_geo.specs.Limits.{Sizes}
 use Rattle.ssd_formats.specs.Numbers.{Text}
 use Rattle.ssd_formats.specs.TraceText.{is_of_actor, most_calls, pages_of_drive, read_trace}
 use Rattle.ssd_geo.specs.declared.trace.Content.{Content}

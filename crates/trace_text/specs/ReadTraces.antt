@@ -2,10 +2,10 @@
 -- traces reads from them. Only a failed read of the source and want of memory may come in its place.
 use Rattle.std.specs.Prelude.{◌≡◌, ℕ, ◌+◌, List, [], Option, Some, Result, Ok, Err}
 use Rattle.ssd_formats.specs.Fields.{◌>>=◌}
-use Rattle.ssd_formats.specs.ImageHead.{Sizes}
+use Rattle.ssd_geo.specs.Limits.{Sizes}
 use Rattle.ssd_formats.specs.InputFaults.{TraceFault, first}
 use Rattle.ssd_formats.specs.Lines.{Line}
-use Rattle.ssd_formats.specs.TraceText.{at_line, calls_of_lines, first_of_line, read_trace}
+use Rattle.ssd_formats.specs.TraceText.{at_line, first_of_line, read_trace}
 use Rattle.ssd_geo.specs.declared.trace.Trace.{Trace}
 use Rattle.ssd_geo.specs.declared.trace.TraceCall.{TraceCall}
 use Rattle.ssd_io.specs.Told.{IsTold, told_bytes}

@@ -3,7 +3,7 @@
 use Rattle.std.specs.Borrow.{Bor}
 use Rattle.std.specs.Prelude.{ℕ, List, [], ◌∷◌, Option, Some, None, option_copied, Result, Ok, Err}
 use Rattle.ssd_formats.specs.Fields.{◌>>=◌}
-use Rattle.ssd_formats.specs.ImageHead.{Sizes}
+use Rattle.ssd_geo.specs.Limits.{Sizes}
 use Rattle.ssd_formats.specs.InputFaults.{TraceFault, form}
 use Rattle.ssd_formats.specs.Lines.{words_in}
 use Rattle.ssd_formats.specs.Numbers.{Text}

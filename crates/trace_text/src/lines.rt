@@ -1,6 +1,6 @@
 // The lines of a trace that aren't skipped: the first, and one for each call.
 ghost use Rattle.std.specs.Prelude.{◌≡◌, ◌<◌, ◌≤◌, IfOk};
-ghost use Rattle.ssd_formats.specs.ImageHead.{sizes_of};
+ghost use Rattle.ssd_geo.specs.Shape.{sizes_of};
 ghost use Rattle.ssd_formats.specs.TraceText.{first_of_line};
 ghost use Rattle.trace_text.specs.Answers.{Answers, named};
 ghost use Rattle.trace_text.specs.LineTexts.{AddsCall, line_of_text, actor_and_verb_of};

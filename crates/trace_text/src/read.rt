@@ -1,6 +1,6 @@
 // A whole trace.
 ghost use Rattle.std.specs.Prelude.{◌≡◌, ◌+◌, ◌≤◌, ◌^◌, [], IfOk, OnOk};
-ghost use Rattle.ssd_formats.specs.ImageHead.{sizes_of};
+ghost use Rattle.ssd_geo.specs.Shape.{sizes_of};
 ghost use Rattle.ssd_formats.specs.TraceText.{calls_of_lines};
 ghost use Rattle.ssd_io.specs.Told.{IsTold};
 ghost use Rattle.image_file.specs.StopCauses.{StopsWithCause};

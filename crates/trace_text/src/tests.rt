@@ -9,7 +9,7 @@ use std::test::Fail;
 // The head of an image with one channel of three dies, four superblocks and eight rows.
 fn small_head(alloc: Global) -> Result<ImageHead, Fail> {
     Ok(ImageHead {
-        shape: Shape::new(1, 3, 4, 2, 64, 3, 6, 8, 8)?,
+        shape: Shape::new(1, 1, 3, 4, 2, 64, 3, 6, 8, 8)?,
         read_levels: Items::new(vec![in alloc; 0, -60]?),
         iterations: 8,
         law: CellLaw {

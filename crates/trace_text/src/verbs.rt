@@ -1,6 +1,6 @@
 // The verb of a call and its arguments. The number of arguments is tested before the first of them.
 ghost use Rattle.std.specs.Prelude.{◌≡◌, ◌<◌, ◌*◌, ◌^◌, ◌∷◌, Ok, option_copied, IfOk};
-ghost use Rattle.ssd_formats.specs.ImageHead.{sizes_of};
+ghost use Rattle.ssd_geo.specs.Shape.{sizes_of};
 ghost use Rattle.ssd_formats.specs.TraceText.{age_call_of, bounded_word, collect_call_of, drain_call_of, page_word, pages_of_drive, verb_of as verb_of_words, write_call_of};
 ghost use Rattle.trace_text.specs.Answers.{Answers, named};
 ghost use Rattle.trace_text.specs.Arguments.{other_verb_of, page_verb_of, amount_with as amount_with_words, die_with as die_with_words, write_with as write_with_words};

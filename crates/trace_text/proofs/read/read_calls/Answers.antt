@@ -1,7 +1,6 @@
-use Rattle.std.proofs.Common.{◌≡◌, ◌+◌, [], Ok, Err, sym, ap, ◌∙◌, subst, List, ℕ, arith, rules}
-use Rattle.ssd_formats.specs.ImageHead.{sizes_of}
-use Rattle.trace_text.specs.BytesAhead.{lines_ahead}
-use Rattle.trace_text.specs.ReadLines.{line_of, pending}
+use Rattle.std.proofs.Common.{◌≡◌, ◌+◌, Ok, Err, sym, ap, ◌∙◌, rules}
+use Rattle.ssd_geo.specs.Shape.{sizes_of}
+use Rattle.trace_text.specs.ReadLines.{line_of}
 use Rattle.trace_text.proofs.Numbering.{calls_with_one}
 use Rattle.trace_text.proofs.TraceSteps.{calls_end, calls_go_on, calls_stop, calls_stop_at}
 use Rattle.trace_text.proofs.read.read_calls.Goals as goal

@@ -1,5 +1,5 @@
 use Rattle.std.proofs.Common.{◌≡◌, ◌+◌, ◌-◌, ◌^◌, ◌≤◌, []}
-use Rattle.ssd_formats.specs.ImageHead.{sizes_of}
+use Rattle.ssd_geo.specs.Shape.{sizes_of}
 use Rattle.ssd_formats.specs.TraceText.{calls_of_lines}
 use Rattle.ssd_io.specs.Told.{IsTold}
 use Rattle.trace_text.specs.BytesAhead.{lines_ahead}

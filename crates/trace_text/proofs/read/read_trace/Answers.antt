@@ -1,5 +1,5 @@
-use Rattle.std.proofs.Common.{◌≡◌, ◌+◌, [], Ok, Err, sym, ap, ◌∙◌, List, ℕ, arith, rules}
-use Rattle.ssd_formats.specs.ImageHead.{sizes_of}
+use Rattle.std.proofs.Common.{◌≡◌, Err, rules}
+use Rattle.ssd_geo.specs.Shape.{sizes_of}
 use Rattle.trace_text.specs.ReadLines.{pending}
 use Rattle.trace_text.specs.ReadTraces.{begun_reader}
 use Rattle.trace_text.proofs.DueSteps.{trace_from}
