@@ -19,7 +19,7 @@ fn small_head(alloc: Global) -> Result<ImageHead, Fail>
     ensures { IfOk result (λ head. length head.read_levels ≡ 2) }
 {
     Ok(ImageHead {
-        shape: Shape::new(1, 3, 4, 2, 64, 3, 6, 8, 8)?,
+        shape: Shape::new(1, 1, 3, 4, 2, 64, 3, 6, 8, 8)?,
         read_levels: Items::new(vec![in alloc; 0, -60]?),
         iterations: 8,
         law: CellLaw {

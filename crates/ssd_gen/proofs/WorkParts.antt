@@ -7,7 +7,7 @@ use Rattle.std.proofs.lemmas.Grind.{flat_map-append}
 use Rattle.ssd_geo.specs.BaseMatrix.{diagonal_entry, zero_block}
 use Rattle.ssd_formats.specs.Fields.{bytes_of_signed}
 use Rattle.ssd_formats.specs.GeneratedWork.{drawn_before_row, drawn_in_row, first_parity_entry, generated_entries, generated_entry, generated_head, generated_line, generated_line_of, generated_row, generated_sizes, generated_trace, is_drawn, message_entry}
-use Rattle.ssd_formats.specs.ImageHead.{Head, head_bytes}
+use Rattle.ssd_formats.specs.ImageHead.{Head, first_head_bytes}
 use Rattle.ssd_geo.specs.Noise.{noise_word, state_after}
 use Rattle.ssd_gen.specs.HeadParts.{head_end, head_start, matrix_bytes, words_of_matrix}
 use Rattle.ssd_gen.specs.RowWords.{entry_bytes, entry_with, row_bytes, words_before}
@@ -75,12 +75,12 @@ head_of_entries number entries = record {
   full = false;
 }
 
-bytes_of_entries : (number : ℕ) (entries : List ℤ) → head_bytes (head_of_entries number entries) ≡ head_start number ++ (flat_map bytes_of_signed entries ++ head_end)
-unfolding head_bytes head_start
+bytes_of_entries : (number : ℕ) (entries : List ℤ) → first_head_bytes (head_of_entries number entries) ≡ head_start number ++ (flat_map bytes_of_signed entries ++ head_end)
+unfolding first_head_bytes head_start
 bytes_of_entries number entries = simp append_assoc
 
 -- the head in its parts
-pub head_is : (number : ℕ) → head_bytes (generated_head number) ≡ head_start number ++ (matrix_bytes number ++ head_end)
+pub head_is : (number : ℕ) → first_head_bytes (generated_head number) ≡ head_start number ++ (matrix_bytes number ++ head_end)
 unfolding matrix_bytes
 head_is number = bytes_of_entries number (generated_entries number)
 

@@ -1,7 +1,7 @@
 // The head of the generated image.
 ghost use Rattle.std.specs.Prelude.{◌≡◌, OnOk};
 ghost use Rattle.ssd_formats.specs.GeneratedWork.{generated_head};
-ghost use Rattle.ssd_formats.specs.ImageHead.{head_bytes};
+ghost use Rattle.ssd_formats.specs.ImageHead.{first_head_bytes};
 ghost use Rattle.ssd_geo.specs.Noise.{state_after};
 ghost use Rattle.ssd_gen.specs.HeadParts.{head_start, head_end, words_of_matrix};
 ghost use Rattle.ssd_io.specs.Writes.{Writes};
@@ -49,7 +49,7 @@ fn put_end<O: Sink>(output: &mut O) -> Result<(), Failed>
 pub fn put_image<O: Sink>(output: &mut O, noise: &mut SplitMix64, number: u32) -> Result<(), Failed>
     requires { noise.old ≡ number }
     ensures image { Writes O.written O.faults output.old output.new result
-        (head_bytes (generated_head number)) }
+        (first_head_bytes (generated_head number)) }
     ensures noise { OnOk result (noise.new ≡ state_after number words_of_matrix) }
 {
     put_start(output, number)?;

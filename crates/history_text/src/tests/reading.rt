@@ -10,7 +10,7 @@ use std::test::Fail;
 // The head of an image with so many channels.
 fn head_of(alloc: Global, channels: u8) -> Result<ImageHead, Fail> {
     Ok(ImageHead {
-        shape: Shape::new(channels, 3, 4, 2, 64, 3, 6, 8, 8)?,
+        shape: Shape::new(1, channels, 3, 4, 2, 64, 3, 6, 8, 8)?,
         read_levels: Items::new(Vec::new(alloc)),
         iterations: 8,
         law: CellLaw {
