@@ -9,10 +9,11 @@ use Rattle.retry_ladder.specs.View.{IsAnswerOf}
 use Rattle.retry_ladder.specs.declared.ask.Answer.{Answer}
 use Rattle.ssd_geo.specs.Bits.{bytes_sum}
 use Rattle.ssd_geo.specs.Coding.{Coding, data_in}
-use Rattle.ssd_geo.specs.Ladder.{LadderState, PlaceState, accepted, asks, best_level, found, has_answer, hard_work, missed, other_places, place_work, recovered, soft_levels, soft_work, stripe_work, uncorrectable, wants, ladder_over}
+use Rattle.ssd_geo.specs.Ladder.{LadderState, PageState, PlaceState, all_kept, asks, best_level, found, has_answer, hard_work, kept_with, missed, none_kept, other_places, page_accepted, page_decoded, partly, place_work, recovered, soft_levels, soft_work, stripe_work, uncorrectable, wants, whole, ladder_over}
 use Rattle.ssd_geo.specs.Limits.{payload_bytes_of}
 use Rattle.ssd_geo.specs.PageHead.{are_zeros, head_of_page}
 use Rattle.ssd_histories.specs.Replies.{bytes_of_word, reply_of_ladder}
+use Rattle.ssd_geo.specs.Shape.{sizes_of}
 use Rattle.ssd_geo.specs.Stripe.{place_of_slot}
 use Rattle.ssd_geo.specs.StripeSum.{zero_word}
 use Rattle.ssd_geo.specs.declared.look.Look.{Look}
@@ -26,57 +27,75 @@ FindsOnly accepts (wants level) = ⊤
 FindsOnly accepts (found rung word left) = IsTrue (accepts word)
 FindsOnly accepts (missed left) = ⊤
 
-accepted_is : (accepts : List ℕ → Bool) (o : Option (List ℕ)) (word : List ℕ) →
-    accepted accepts o ≡ Some word → IsTrue (accepts word)
-accepted_is accepts None word e = absurd (cc)
-accepted_is accepts (Some one) word e = by_test (accepts one) refl e
+-- a decoding at a place comes only to a page's word that is accepted
+abbrev AcceptsOnly : (List ℕ → Bool) → PageState → Type 0
+AcceptsOnly accepts (whole word) = IsTrue (accepts word)
+AcceptsOnly accepts (partly kept) = ⊤
+
+page_accepts : (coding : Coding) (accepts : List ℕ → Bool) (kept : List (Option (List ℕ)))
+    (all : Option (List (List ℕ))) → AcceptsOnly accepts (page_accepted coding accepts kept all)
+page_accepts coding accepts kept None = tt
+page_accepts coding accepts kept (Some codes) =
+    by_test (accepts (coding.joined codes)) refl
   where
-    by_test : (b : Bool) → accepts one ≡ b → ◌≡◌ {A = Option (List ℕ)}
-        (elim b [ true ↦ Some one | false ↦ None ]) (Some word) → IsTrue (accepts word)
-    by_test true is found_is = cc
-    by_test false is found_is = absurd (cc)
-
-one_found : (accepts : List ℕ → Bool) (rung : ℕ) (left : List (List ℕ)) (rest : PlaceState)
-    (o : Option (List ℕ)) → ((word : List ℕ) → o ≡ Some word → IsTrue (accepts word)) →
-    FindsOnly accepts rest → FindsOnly accepts (elim o [
-      | Some word ↦ found rung word
-          left
-      | None ↦ rest
+    by_test : (b : Bool) → accepts (coding.joined codes) ≡ b → AcceptsOnly accepts (elim b [
+      | true ↦ whole (coding.joined codes)
+      | false ↦ partly (none_kept coding)
     ])
-one_found accepts rung left rest None f h = h
-one_found accepts rung left rest (Some word) f h = f word refl
+    by_test true is = is
+    by_test false is = tt
 
-soft_finds : (coding : Coding) (accepts : List ℕ → Bool) (center : ℤ) (senses : List (List ℕ))
-    (b : Bool) → FindsOnly accepts (elim b [
+decoded_accepts : (coding : Coding) (accepts : List ℕ → Bool) (finds : ℕ → Option (List ℕ))
+    (kept : List (Option (List ℕ))) → AcceptsOnly accepts (page_decoded coding accepts finds kept)
+decoded_accepts coding accepts finds kept =
+    page_accepts coding accepts (kept_with finds 0 kept) (all_kept (kept_with finds 0 kept))
+
+one_found : (accepts : List ℕ → Bool) (rung : ℕ) (left : List (List ℕ))
+    (rest : List (Option (List ℕ)) → PlaceState) (state : PageState) → AcceptsOnly accepts state →
+    ((now : List (Option (List ℕ))) → FindsOnly accepts (rest now)) →
+    FindsOnly accepts (elim state [
+      | whole word ↦ found rung word left
+      | partly now ↦ rest now
+    ])
+one_found accepts rung left rest (partly now) f h = h now
+one_found accepts rung left rest (whole word) f h = f
+
+soft_finds : (coding : Coding) (accepts : List ℕ → Bool) (center : ℤ)
+    (kept : List (Option (List ℕ))) (senses : List (List ℕ)) (b : Bool) →
+    FindsOnly accepts (elim b [
       | true ↦ wants (slice_index_or (soft_levels coding.step center) (length senses) center)
-      | false ↦ elim (accepted accepts (coding.soft (take 5 senses))) [
-        | Some word ↦ found (length coding.levels) word (drop 5 senses)
-        | None ↦ missed (drop 5 senses)
+      | false ↦ elim (page_decoded coding accepts (coding.soft (take 5 senses)) kept) [
+        | whole word ↦ found (length coding.levels) word (drop 5 senses)
+        | partly now ↦ missed (drop 5 senses)
       ]
     ])
-soft_finds coding accepts center senses true = tt
-soft_finds coding accepts center senses false =
-    one_found accepts (length coding.levels) (drop 5 senses) (missed (drop 5 senses))
-    (accepted accepts (coding.soft (take 5 senses)))
-    (accepted_is accepts (coding.soft (take 5 senses))) tt
+soft_finds coding accepts center kept senses true = tt
+soft_finds coding accepts center kept senses false =
+    one_found accepts (length coding.levels) (drop 5 senses) (λ now. missed (drop 5 senses))
+    (page_decoded coding accepts (coding.soft (take 5 senses)) kept)
+    (decoded_accepts coding accepts (coding.soft (take 5 senses)) kept) (λ now. tt)
 
-hard_finds : (coding : Coding) (accepts : List ℕ → Bool) (after : List (List ℕ) → PlaceState) →
-    ((senses : List (List ℕ)) → FindsOnly accepts (after senses)) →
-    (levels : List ℤ) (rung : ℕ) (senses : List (List ℕ)) →
-    FindsOnly accepts (hard_work coding accepts after levels rung senses)
-hard_finds coding accepts after h [] rung senses = h senses
-hard_finds coding accepts after h (level ∷ levels) rung [] = tt
-hard_finds coding accepts after h (level ∷ levels) rung (sense ∷ senses) =
-    one_found accepts rung senses (hard_work coding accepts after levels (rung + 1) senses)
-    (accepted accepts (coding.hard sense)) (accepted_is accepts (coding.hard sense))
-    (hard_finds coding accepts after h levels (rung + 1) senses)
+hard_finds : (coding : Coding) (accepts : List ℕ → Bool)
+    (after : List (Option (List ℕ)) → List (List ℕ) → PlaceState) →
+    ((kept : List (Option (List ℕ))) (senses : List (List ℕ)) → FindsOnly accepts
+    (after kept senses)) →
+    (levels : List ℤ) (rung : ℕ) (kept : List (Option (List ℕ))) (senses : List (List ℕ)) →
+    FindsOnly accepts (hard_work coding accepts after levels rung kept senses)
+hard_finds coding accepts after h [] rung kept senses = h kept senses
+hard_finds coding accepts after h (level ∷ levels) rung kept [] = tt
+hard_finds coding accepts after h (level ∷ levels) rung kept (sense ∷ senses) =
+    one_found accepts rung senses
+    (λ now. hard_work coding accepts after levels (rung + 1) now senses)
+    (page_decoded coding accepts (coding.hard sense) kept)
+    (decoded_accepts coding accepts (coding.hard sense) kept)
+    (λ now. hard_finds coding accepts after h levels (rung + 1) now senses)
 
 place_finds : (coding : Coding) (accepts : List ℕ → Bool) (senses : List (List ℕ)) →
     FindsOnly accepts (place_work coding accepts senses)
 place_finds coding accepts senses =
     hard_finds coding accepts (soft_work coding accepts (best_level coding senses))
-    (λ (left : List (List ℕ)). soft_finds coding accepts (best_level coding senses) left
-    (nat_lt (length left) 5)) coding.levels 0 senses
+    (λ kept left. soft_finds coding accepts (best_level coding senses) kept left
+    (nat_lt (length left) 5)) coding.levels 0 (none_kept coding) senses
 
 -- a ladder recovers only words that are accepted
 abbrev RecoversOnly : (List ℕ → Bool) → LadderState → Type 0
@@ -156,7 +175,7 @@ pub data_given : (shape : Shape) (serial row : ℕ) (word : List ℕ) →
     (bytes_of_word shape.bytes word)
 data_given shape serial row word =
     by_test (starts_with nat_eq word (head_of_page serial row) && are_zeros
-    (slice_range word (16 + shape.bytes) (payload_bytes_of shape.mb shape.nb shape.z)))
+    (slice_range word (16 + shape.bytes) (payload_bytes_of (sizes_of shape))))
     (bytes_of_word shape.bytes word)
   where
     by_test : (b : Bool) (bytes : List ℕ) → IsTrue (is_some (if b then Some bytes else None)) →

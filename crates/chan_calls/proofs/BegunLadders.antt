@@ -38,7 +38,10 @@ record IsOfWorker (worker : WorkerState) (ladder : LadderView) (matrix : BaseMat
 
 -- what a worker keeps, after its ladder began with a look
 abbrev pub begun_with : Inside → Look → LadderView
-begun_with i look = record i.ladder { look = look; run = at_page (place_start i.ladder.levels) }
+begun_with i look = record i.ladder {
+  look = look;
+  run = at_page (place_start i.ladder.levels i.ladder.shape.words);
+}
 
 begun_is : (i : Inside) (first : LadderView) (look : Look) → IsReady i → first ≡ begun_with i look →
     IsOfWorker (worker_state i) first i.decoder.decoder.code i.decoder.decoder.limit
@@ -84,7 +87,7 @@ climb_begins worker i ladder matrix limit old mid stood stands tag row look now 
       stands_for = record {
         look_is = ap (λ (l : LadderView). l.look) is;
         run_is = ap (λ (l : LadderView). l.run) is ∙ ap
-            (λ (l : LadderView). at_page (place_start l.levels)) (sym is);
+            (λ (l : LadderView). at_page (place_start l.levels l.shape.words)) (sym is);
       };
       is_own = ap (λ (past : List Entry). own_look tag past look.at) makes.3
           ∙ new_is_own now tag row look makes.0 makes.1;

@@ -6,12 +6,12 @@ use Rattle.std.proofs.lemmas.List.{length-append, map-append}
 use Rattle.std.proofs.Math.Nat.{mul-le-mul_left}
 use Rattle.chan_state.specs.TablesState.{senses_had}
 use Rattle.ldpc_decode.specs.View.{DecoderView}
-use Rattle.retry_ladder.specs.Decoder.{IsCodeOf, coding_in}
+use Rattle.retry_ladder.specs.Decoder.{IsCodeOf}
 use Rattle.retry_ladder.specs.View.{IsAskOf, IsLookIn, LadderView, StandsFor, coding_with, state_in, with_sense}
 use Rattle.retry_ladder.proofs.Standing.{fed_ladders_stand, ladders_tell_their_state}
 use Rattle.retry_ladder.specs.declared.ask.Ask.{Ask}
 use Rattle.ssd_geo.specs.BaseMatrix.{BaseMatrix}
-use Rattle.ssd_geo.specs.Coding.{Coding, coding_of, matrix_of}
+use Rattle.ssd_geo.specs.Coding.{Coding, coding_in, coding_of, matrix_of}
 use Rattle.ssd_histories.specs.History.{look_of}
 use Rattle.ssd_geo.specs.LadderLaws.{AsksBelow}
 use Rattle.ssd_geo.specs.Ladder.{LadderState, asks, has_answer, recovered, uncorrectable, ladder_over}

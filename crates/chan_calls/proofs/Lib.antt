@@ -4,6 +4,7 @@ pub mod AloneSteps
 pub mod BegunLadders
 mod CallsAlone
 pub mod ClimbingLooks
+pub mod EncodedPages
 pub mod LadderPlaces
 pub mod NewLooks
 pub mod ReadCalls

@@ -5,8 +5,9 @@ use Rattle.std.specs.Prelude.{IfSome, Result}
 use Rattle.chan_state.specs.Steps.{IsWordOf}
 use Rattle.chan_state.specs.declared.answers.WriteAnswer.{WriteAnswer}
 use Rattle.ssd_geo.specs.BaseMatrix.{BaseMatrix}
-use Rattle.ssd_geo.specs.Codewords.{word_of}
 use Rattle.ssd_geo.specs.Coding.{matrix_of, payload_of}
+use Rattle.ssd_geo.specs.PageWord.{word_of}
+use Rattle.ssd_geo.specs.Shape.{sizes_of}
 use Rattle.ssd_histories.specs.PastRows.{serial_of}
 use Rattle.ssd_histories.specs.Start.{Start, data_of}
 use Rattle.ssd_geo.specs.declared.shape.Shape.{Shape}
@@ -17,36 +18,41 @@ use Rattle.chan_calls.specs.Calls.{WritesData}
 use Rattle.chan_calls.specs.Stepping.{Standing, WritesOn}
 use Rattle.chan_calls.specs.Workers.{MayCall, WorkerState, WorksFor}
 
+-- the word that a worker makes of a serial, a row and data
+abbrev pub word_made_by : WorkerState → ℕ → ℕ → List ℕ → List ℕ
+word_made_by worker serial row bytes =
+    word_of (sizes_of worker.shape) worker.code (payload_of worker.shape serial row bytes)
+
 is_word_of : (worker : WorkerState) (start : Start) (contents : List (Tag × List ℕ)) (tag : Tag)
     (row : ℕ) (bytes : List ℕ) (serial : ℕ) (word : List ℕ) →
     WorksFor worker start → data_of contents tag ≡ bytes → serial ≡ serial_of worker.session tag →
-    word ≡ word_of worker.code (payload_of worker.shape serial row bytes) →
-    IsWordOf start contents tag row word
+    word ≡ word_made_by worker serial row bytes → IsWordOf start contents tag row word
 is_word_of worker start contents tag row bytes serial word works data_is serial_is word_is =
     word_is
-    ∙ ap (λ (code : BaseMatrix). word_of code (payload_of worker.shape serial row bytes))
-    works.code_is
-    ∙ ap (λ (n : ℕ). word_of (matrix_of start.base) (payload_of worker.shape n row bytes))
+    ∙ ap (λ (code : BaseMatrix). word_of (sizes_of worker.shape) code
+    (payload_of worker.shape serial row bytes)) works.code_is
+    ∙ ap (λ (n : ℕ). word_of (sizes_of worker.shape) (matrix_of start.base)
+    (payload_of worker.shape n row bytes))
     (serial_is ∙ ap (λ (session : ℕ). serial_of session tag) works.session_is)
-    ∙ ap (λ (data_bytes : List ℕ). word_of (matrix_of start.base)
+    ∙ ap (λ (data_bytes : List ℕ). word_of (sizes_of worker.shape) (matrix_of start.base)
     (payload_of worker.shape (serial_of start.base.session tag) row data_bytes)) (sym data_is)
-    ∙ ap (λ (shape : Shape). word_of (matrix_of start.base)
+    ∙ ap (λ (shape : Shape). word_of (sizes_of shape) (matrix_of start.base)
     (payload_of shape (serial_of start.base.session tag) row (data_of contents tag)))
     works.shape_is
 
 -- the word that was encoded, of the payload that was made
 pub word_made : (matrix code : BaseMatrix) (shape : Shape) (serial row : ℕ)
     (bytes payload encoded : List ℕ) → payload ≡ payload_of shape serial row bytes →
-    encoded ≡ word_of matrix payload →
-    matrix ≡ code → encoded ≡ word_of code (payload_of shape serial row bytes)
+    encoded ≡ word_of (sizes_of shape) matrix payload → matrix ≡ code →
+    encoded ≡ word_of (sizes_of shape) code (payload_of shape serial row bytes)
 word_made matrix code shape serial row bytes payload encoded payload_is encoded_is same =
-    encoded_is ∙ ap (λ (m : BaseMatrix). word_of m payload) same ∙ ap (word_of code) payload_is
+    encoded_is ∙ ap (λ (m : BaseMatrix). word_of (sizes_of shape) m payload) same
+    ∙ ap (word_of (sizes_of shape) code) payload_is
 
 pub writes_data : (worker : WorkerState) (old new : CallerView) (stood stands : Standing)
     (tag : Tag) (row : ℕ) (bytes : List ℕ) (serial : ℕ) (word : List ℕ)
     (result : Result WriteAnswer StepStop) →
-    serial ≡ serial_of worker.session tag → word ≡ word_of worker.code
-    (payload_of worker.shape serial row bytes) →
+    serial ≡ serial_of worker.session tag → word ≡ word_made_by worker serial row bytes →
     WritesOn old new stood stands tag row word result →
     WritesData worker old new stood stands tag bytes result
 writes_data worker old new stood stands tag row bytes serial word result serial_is word_is writes =
@@ -57,8 +63,7 @@ writes_data worker old new stood stands tag row bytes serial word result serial_
 -- the word is that to which the channel is bound
 pub bound_word : (worker : WorkerState) (caller : CallerView) (stands : Standing) (tag : Tag)
     (row : ℕ) (bytes : List ℕ) (serial : ℕ) (word : List ℕ) →
-    serial ≡ serial_of worker.session tag → word ≡ word_of worker.code
-    (payload_of worker.shape serial row bytes) →
+    serial ≡ serial_of worker.session tag → word ≡ word_made_by worker serial row bytes →
     MayCall worker caller stands → TakesData caller tag bytes → IsBoundWord caller tag row word
 bound_word worker caller stands tag row bytes serial word serial_is word_is may takes =
     by_bound caller.bound may.bound takes

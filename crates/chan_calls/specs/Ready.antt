@@ -11,7 +11,8 @@ use Rattle.retry_ladder.specs.declared.ask.Answer.{Answer}
 use Rattle.retry_ladder.specs.declared.ask.Answer.TheVariants.{Recovered, Uncorrectable}
 use Rattle.ssd_geo.specs.Coding.{data_in, word_bytes_in}
 use Rattle.ssd_geo.specs.Ladder.{LadderState, asks, recovered, uncorrectable}
-use Rattle.ssd_geo.specs.Limits.{payload_bytes_of}
+use Rattle.ssd_geo.specs.Limits.{code_bytes_of, payload_bytes_of}
+use Rattle.ssd_geo.specs.Shape.{sizes_of}
 use Rattle.ssd_geo.specs.declared.shape.Shape.{Shape}
 
 -- the data that a ladder's state has for a serial and a row
@@ -36,9 +37,10 @@ worker_state a = record {
   data_bytes = data_found a.ladder;
 }
 
--- the room of a worker for a page's payload and word
+-- the room of a worker for a page's payload, for one codeword and for the page's word
 pub record HasBuffers (shape : Shape) (room : PageRoom) : Type 0 where
-  pub payload_room : length room.payload.items ≡ payload_bytes_of shape.mb shape.nb shape.z
+  pub payload_room : length room.payload.items ≡ payload_bytes_of (sizes_of shape)
+  pub code_room : length room.code.items ≡ code_bytes_of (sizes_of shape)
   pub word_room : length room.word.items ≡ word_bytes_in shape
 
 -- what a worker keeps fits its sizes

@@ -6,6 +6,7 @@
 mod alone;
 mod call_laws;
 mod climb;
+mod encoding;
 mod gate;
 mod page_decoder;
 mod read_reply;

@@ -11,13 +11,13 @@ ghost use Rattle.ssd_histories.specs.PastRows.{serial_of};
 ghost use Rattle.ssd_geo.specs.Limits.{is_level};
 
 use crate::climb::climb;
+use crate::encoding::encode_page;
 use crate::gate::{Gate, Moment, Point};
 use crate::page_decoder::PageDecoder;
 use crate::read_reply::ReadReply;
 use crate::steps::Steps;
 use chan_state::{LookAnswer, WriteAnswer};
 use ldpc_decode::{Decoder, Lanes};
-use ldpc_encode::encode_into;
 use page_head::payload_into;
 use qc_matrix::Code;
 use retry_ladder::{Answer, Ask, Ladder};
@@ -25,10 +25,11 @@ use ssd_geo::{Items, Memory, Shape, StepStop, Tag};
 use std::alloc::Global;
 use std::marker::Model;
 
-// Room for one page on its way: its payload and its word.
+// Room for one page on its way: its payload, a codeword and its word.
 #[derive(Drop)]
 struct PageRoom {
     payload: Vec<u8>,
+    code: Vec<u8>,
     word: Vec<u8>,
 }
 
@@ -85,6 +86,7 @@ impl PageRoom {
     {
         Ok(PageRoom {
             payload: zeros(alloc, shape.payload_bytes())?,
+            code: zeros(alloc, shape.code_bytes())?,
             word: zeros(alloc, shape.word_bytes())?,
         })
     }
@@ -223,7 +225,13 @@ impl Worker {
             tag,
             moment: Moment::Encode,
         });
-        encode_into(self.decoder.code(), &self.room.payload, &mut self.room.word);
+        encode_page(
+            &self.shape,
+            self.decoder.code(),
+            &self.room.payload,
+            &mut self.room.code,
+            &mut self.room.word,
+        );
         steps.write(tag, row, &self.room.word)
     }
 }

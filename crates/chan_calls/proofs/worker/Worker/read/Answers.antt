@@ -3,7 +3,7 @@ use Rattle.retry_ladder.specs.View.{LadderView}
 use Rattle.ssd_geo.specs.declared.look.Look.{Look}
 use Rattle.chan_calls.specs.Caller.{CallerView}
 use Rattle.chan_calls.specs.Stepping.{Standing}
-use Rattle.chan_calls.proofs.BegunLadders.{HasFoundPage, page_begins}
+use Rattle.chan_calls.proofs.BegunLadders.{HasFoundPage, page_begins, page_may_climb}
 use Rattle.chan_calls.proofs.ReadCalls.{HasAnswered, page_answered, page_goes_on, reads_page}
 use Rattle.chan_calls.proofs.worker.Worker.read.Goals as goal
 
@@ -26,6 +26,27 @@ climb-requires-clause-begun g c κs within =
       made = rw c.in-Found.is at c.in_ok-look.ensures.made;
     } in
     page_begins c.self.inside c.args.self.now old mid stood looked c.args.tag c.args.row look first
+    page
+
+pub climb-requires-clause-may : goal.climb-requires-clause-may
+climb-requires-clause-may g c κs within =
+    let old : CallerView = g.S.Steps.view c.args.steps.now in
+    let mid : CallerView = g.S.Steps.view c.look.new.self in
+    let stood : Standing = g.S.Steps.stands c.args.steps.now in
+    let looked : Standing = g.S.Steps.stands c.look.new.self in
+    let look : Look = c.in-Found.look in
+    let first : LadderView = c.begin.new.self in
+    let page : HasFoundPage c.self.inside c.args.self.now old mid stood looked c.args.tag c.args.row
+    look first = record {
+      view_is = c.self.view_is;
+      ready = c.self.invariant;
+      begun = c.begin.ensures;
+      may = c.requires.may;
+      same = c.look.ensures.same;
+      goes_on = c.look.ensures.goes_on;
+      made = rw c.in-Found.is at c.in_ok-look.ensures.made;
+    } in
+    page_may_climb c.self.inside c.args.self.now old mid stood looked c.args.tag c.args.row look first
     page
 
 pub returns-in-Empty-clause-goes_on : goal.returns-in-Empty-clause-goes_on

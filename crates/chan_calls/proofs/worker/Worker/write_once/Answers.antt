@@ -1,6 +1,7 @@
 use Rattle.std.proofs.Common.{ℕ, ◌≡◌, List, sym, subst, arith}
-use Rattle.ssd_geo.specs.Codewords.{word_of}
 use Rattle.ssd_geo.specs.Coding.{payload_of}
+use Rattle.ssd_geo.specs.PageWord.{word_of}
+use Rattle.ssd_geo.specs.Shape.{sizes_of}
 use Rattle.chan_calls.specs.Calls.{WritesData}
 use Rattle.chan_calls.specs.Ready.{worker_state}
 use Rattle.chan_calls.specs.Stepping.{Standing}
@@ -20,14 +21,15 @@ write-requires-clause-of_call g c =
     (payload_of i.shape c.serial_of-serial.result c.args.row c.args.bytes.now) c.deref.ensures.value
     (omega arith) c.payload_into.ensures in
     let word : List ℕ = c.deref-2.result.now in
-    let encoded : word ≡ word_of i.decoder.decoder.code
+    let encoded : word ≡ word_of (sizes_of i.shape) i.decoder.decoder.code
     (payload_of i.shape c.serial_of-serial.result c.args.row c.args.bytes.now) =
-    read_back i.room.word.len c.encode_into.new.out i.room.word.items word
-    (word_of i.decoder.decoder.code (payload_of i.shape c.serial_of-serial.result c.args.row
-    c.args.bytes.now)) c.deref-2.ensures.value (omega arith)
+    read_back i.room.word.len c.encode_page.new.word i.room.word.items word
+    (word_of (sizes_of i.shape) i.decoder.decoder.code
+    (payload_of i.shape c.serial_of-serial.result c.args.row c.args.bytes.now))
+    c.deref-2.ensures.value (omega arith)
     (word_made c.code.result.now i.decoder.decoder.code i.shape c.serial_of-serial.result c.args.row
-    c.args.bytes.now payload c.encode_into.new.out payload_is
-    c.encode_into.ensures.word c.code.ensures) in
+    c.args.bytes.now payload c.encode_page.new.word payload_is c.encode_page.ensures c.code.ensures)
+    in
     let caller = g.S.Steps.view c.args.steps.now in
     let stands : Standing = g.S.Steps.stands c.args.steps.now in
     bound_word worker caller stands c.args.tag c.args.row c.args.bytes.now c.serial_of-serial.result
@@ -46,14 +48,15 @@ returns-clause-goes_on g c =
     (payload_of i.shape c.serial_of-serial.result c.args.row c.args.bytes.now) c.deref.ensures.value
     (omega arith) c.payload_into.ensures in
     let word : List ℕ = c.deref-2.result.now in
-    let encoded : word ≡ word_of i.decoder.decoder.code
+    let encoded : word ≡ word_of (sizes_of i.shape) i.decoder.decoder.code
     (payload_of i.shape c.serial_of-serial.result c.args.row c.args.bytes.now) =
-    read_back i.room.word.len c.encode_into.new.out i.room.word.items word
-    (word_of i.decoder.decoder.code (payload_of i.shape c.serial_of-serial.result c.args.row
-    c.args.bytes.now)) c.deref-2.ensures.value (omega arith)
+    read_back i.room.word.len c.encode_page.new.word i.room.word.items word
+    (word_of (sizes_of i.shape) i.decoder.decoder.code
+    (payload_of i.shape c.serial_of-serial.result c.args.row c.args.bytes.now))
+    c.deref-2.ensures.value (omega arith)
     (word_made c.code.result.now i.decoder.decoder.code i.shape c.serial_of-serial.result c.args.row
-    c.args.bytes.now payload c.encode_into.new.out payload_is
-    c.encode_into.ensures.word c.code.ensures) in
+    c.args.bytes.now payload c.encode_page.new.word payload_is c.encode_page.ensures c.code.ensures)
+    in
     let old = g.S.Steps.view c.args.steps.now in
     let new = g.S.Steps.view c.write.new.self in
     let stood : Standing = g.S.Steps.stands c.args.steps.now in
