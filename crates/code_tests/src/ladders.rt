@@ -1,9 +1,9 @@
 ghost use Rattle.std.specs.Prelude.{◌≡◌, IfOk, IfSome};
+ghost use Rattle.code_tests.specs.Drives.{IsDrive};
 ghost use Rattle.retry_ladder.specs.View.{IsAnswerOf, state_in};
-ghost use Rattle.ssd_geo.specs.Shape.{HasSizes};
 
-use any_word::AnyWord;
-use retry_ladder::{Answer, Ask, Ladder};
+use any_word::{AnyHalf, AnyWord};
+use retry_ladder::{Answer, Ask, Decode, Ladder};
 use ssd_geo::{Items, Look, Place, Shape, Slot};
 use std::alloc::Global;
 use std::process::Abort;
@@ -61,12 +61,19 @@ fn look(closed: bool) -> Look
     }
 }
 
-fn ladder_of(alloc: Global) -> Result<Ladder, Fail>
-    ensures { IfOk result (λ ladder. HasSizes ladder.shape 1 3 4 2 64 3 6 8 8) }
+// A ladder of pages of 48 bytes with so many codewords.
+fn ladder_of<C: Decode>(alloc: Global, decoder: &C, words: u8, z: u16) -> Result<Ladder, Fail>
+    requires lifting { (C.matrix decoder.now).z ≡ z }
+    requires base_rows { (C.matrix decoder.now).mb ≡ 3 }
+    requires base_columns { (C.matrix decoder.now).nb ≡ 6 }
+    ensures { IfOk result (λ ladder. IsDrive ladder.shape (C.matrix decoder.now)) }
 {
-    let Ok(shape) = Shape::new(1, 3, 4, 2, 64, 3, 6, 8, 8) else {
+    let Ok(shape) = Shape::new(words, 1, 3, 4, 2, z, 3, 6, 8, 8) else {
         return Err("no shape".into());
     };
+    if shape.word_bytes() != 48 {
+        return Err("pages of another length".into());
+    }
     let levels = Items::new(vec![in alloc; 40i16, -8]?);
     let Ok(ladder) = Ladder::new(alloc, shape, levels, 6) else {
         return Err("no memory".into());
@@ -75,9 +82,15 @@ fn ladder_of(alloc: Global) -> Result<Ladder, Fail>
 }
 
 // Feeds one sense, which has to be of this die and level.
-fn feed(rt: &impl Abort, ladder: &mut Ladder, want: (u8, i16), sense: &[u8; 48])
-    requires { HasSizes ladder.old.shape 1 3 4 2 64 3 6 8 8 }
-    ensures { HasSizes ladder.new.shape 1 3 4 2 64 3 6 8 8 }
+fn feed<C: Decode>(
+    rt: &impl Abort,
+    ladder: &mut Ladder,
+    decoder: &mut C,
+    want: (u8, i16),
+    sense: &[u8; 48],
+)
+    requires { IsDrive ladder.old.shape (C.matrix decoder.old) }
+    ensures { IsDrive ladder.new.shape (C.matrix decoder.new) }
 {
     let (die, wanted) = want;
     match ladder.ask() {
@@ -91,26 +104,27 @@ fn feed(rt: &impl Abort, ladder: &mut Ladder, want: (u8, i16), sense: &[u8; 48])
                 }
             );
             assert_eq!(rt; level, wanted);
-            ladder.feed(&mut AnyWord, sense);
+            ladder.feed(decoder, sense);
         }
         Ask::Done => assert!(rt; false, "it wants no sense"),
     }
 }
 
 // What a ladder answers to these senses, in the order in which it asks for them.
-fn answer_to(
+fn answer_to<C: Decode>(
     rt: &impl Abort,
     ladder: &mut Ladder,
+    decoder: &mut C,
     closed: bool,
     senses: &[[u8; 48]],
 ) -> Option<Answer>
-    requires { HasSizes ladder.old.shape 1 3 4 2 64 3 6 8 8 }
+    requires { IsDrive ladder.old.shape (C.matrix decoder.old) }
     ensures answer { IfSome result (λ answer. IsAnswerOf (state_in ladder.new) answer) }
-    ensures shape { HasSizes ladder.new.shape 1 3 4 2 64 3 6 8 8 }
+    ensures drive { IsDrive ladder.new.shape (C.matrix decoder.new) }
 {
     ladder.begin(&look(closed));
     for (ask, sense) in ASKS.iter().zip(senses) {
-        feed(rt, ladder, *ask, sense);
+        feed(rt, ladder, decoder, *ask, sense);
     }
     match ladder.ask() {
         Ask::Done => Some(ladder.answer()),
@@ -119,11 +133,18 @@ fn answer_to(
 }
 
 // These senses recover the page at this rung, and no fewer do.
-fn recovers(rt: &impl Abort, ladder: &mut Ladder, closed: bool, senses: &[[u8; 48]], rung: u8)
-    requires { HasSizes ladder.old.shape 1 3 4 2 64 3 6 8 8 }
-    ensures { HasSizes ladder.new.shape 1 3 4 2 64 3 6 8 8 }
+fn recovers<C: Decode>(
+    rt: &impl Abort,
+    ladder: &mut Ladder,
+    decoder: &mut C,
+    closed: bool,
+    senses: &[[u8; 48]],
+    rung: u8,
+)
+    requires { IsDrive ladder.old.shape (C.matrix decoder.old) }
+    ensures { IsDrive ladder.new.shape (C.matrix decoder.new) }
 {
-    match answer_to(rt, ladder, closed, senses) {
+    match answer_to(rt, ladder, decoder, closed, senses) {
         Some(Answer::Recovered { rung: at }) => {
             assert_eq!(rt; at, rung);
             assert_eq!(rt; ladder.word(), PAGE.as_slice());
@@ -133,50 +154,47 @@ fn recovers(rt: &impl Abort, ladder: &mut Ladder, closed: bool, senses: &[[u8; 4
     }
 }
 
-#[test]
-fn a_page_is_recovered_at_each_rung(rt: HostRuntime) -> Result<(), Fail> {
-    let mut ladder = ladder_of(rt.alloc())?;
-    recovers(&rt, &mut ladder, false, &[PAGE], 0);
-    recovers(&rt, &mut ladder, false, &[ZEROS, PAGE], 1);
+fn recovers_at_each_rung<C: Decode>(rt: &impl Abort, ladder: &mut Ladder, decoder: &mut C)
+    requires { IsDrive ladder.old.shape (C.matrix decoder.old) }
+    ensures { IsDrive ladder.new.shape (C.matrix decoder.new) }
+{
+    recovers(rt, ladder, decoder, false, &[PAGE], 0);
+    recovers(rt, ladder, decoder, false, &[ZEROS, PAGE], 1);
     // Of five senses two say 0 at each bit and two say 1, so the one in the middle decides.
-    recovers(
-        &rt,
-        &mut ladder,
-        false,
-        &[ZEROS, ONES, ZEROS, ONES, PAGE, ZEROS, ONES],
-        2,
-    );
-    recovers(
-        &rt,
-        &mut ladder,
-        true,
-        &[ZEROS, ZEROS, ZEROS, ZEROS, ZEROS, ZEROS, ZEROS, ONES, REST],
-        3,
-    );
+    let soft = [ZEROS, ONES, ZEROS, ONES, PAGE, ZEROS, ONES];
+    recovers(rt, ladder, decoder, false, &soft, 2);
+    let stripe = [ZEROS, ZEROS, ZEROS, ZEROS, ZEROS, ZEROS, ZEROS, ONES, REST];
+    recovers(rt, ladder, decoder, true, &stripe, 3);
     // No sum of an earlier look is left.
-    recovers(
-        &rt,
-        &mut ladder,
-        true,
-        &[ZEROS, ZEROS, ZEROS, ZEROS, ZEROS, ZEROS, ZEROS, REST, ONES],
-        3,
-    );
+    let again = [ZEROS, ZEROS, ZEROS, ZEROS, ZEROS, ZEROS, ZEROS, REST, ONES];
+    recovers(rt, ladder, decoder, true, &again, 3);
+}
+
+fn is_lost_without_its_head<C: Decode>(rt: &impl Abort, ladder: &mut Ladder, decoder: &mut C)
+    requires { IsDrive ladder.old.shape (C.matrix decoder.old) }
+{
+    let open = [ZEROS, ONES, ZEROS, ONES, ZEROS, ZEROS, ONES];
+    let lost = answer_to(rt, ladder, decoder, false, &open);
+    assert_eq!(rt; lost, Some(Answer::Uncorrectable));
+    let other = [ZEROS, ONES, ZEROS, ONES, ZEROS, ZEROS, ONES, PAGE, ONES];
+    let lost = answer_to(rt, ladder, decoder, true, &other);
+    assert_eq!(rt; lost, Some(Answer::Uncorrectable));
+    let unanswered = answer_to(rt, ladder, decoder, true, &open);
+    assert_eq!(rt; unanswered, None);
+}
+
+#[test]
+fn a_page_of_one_codeword_is_recovered_at_each_rung(rt: HostRuntime) -> Result<(), Fail> {
+    let mut ladder = ladder_of(rt.alloc(), &AnyWord, 1, 64)?;
+    recovers_at_each_rung(&rt, &mut ladder, &mut AnyWord);
+    is_lost_without_its_head(&rt, &mut ladder, &mut AnyWord);
     Ok(())
 }
 
 #[test]
-fn a_page_is_lost_where_nothing_has_its_head(rt: HostRuntime) -> Result<(), Fail> {
-    let mut ladder = ladder_of(rt.alloc())?;
-    let open = [ZEROS, ONES, ZEROS, ONES, ZEROS, ZEROS, ONES];
-    assert_eq!(rt;
-        answer_to(&rt, &mut ladder, false, &open),
-        Some(Answer::Uncorrectable)
-    );
-    let other = [ZEROS, ONES, ZEROS, ONES, ZEROS, ZEROS, ONES, PAGE, ONES];
-    assert_eq!(rt;
-        answer_to(&rt, &mut ladder, true, &other),
-        Some(Answer::Uncorrectable)
-    );
-    assert_eq!(rt; answer_to(&rt, &mut ladder, true, &open), None);
+fn a_page_of_two_codewords_is_recovered_at_each_rung(rt: HostRuntime) -> Result<(), Fail> {
+    let mut ladder = ladder_of(rt.alloc(), &AnyHalf, 2, 32)?;
+    recovers_at_each_rung(&rt, &mut ladder, &mut AnyHalf);
+    is_lost_without_its_head(&rt, &mut ladder, &mut AnyHalf);
     Ok(())
 }

@@ -7,6 +7,8 @@ mod bit_lists;
 #[cfg(test)]
 mod codewords;
 #[cfg(test)]
+mod kept_codewords;
+#[cfg(test)]
 mod ladders;
 #[cfg(test)]
 mod layers;

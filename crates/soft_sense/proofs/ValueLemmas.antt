@@ -1,24 +1,16 @@
 -- The values of a page, eight by eight.
-use Rattle.std.proofs.Common.{◌≡◌, ℕ, zero, suc, ◌+◌, ◌-◌, ◌*◌, ◌/◌, ◌%◌, ◌<◌, ◌≤◌, ◌≢◌, Bool, true, false, not, cond, List, [], ◌∷◌, ◌++◌, map, length, take, get_or, set, ℤ, pos, refl, sym, ◌∙◌, ap, arith, rules, append_assoc, below_more, get_or-set_other, get_or-set_same}
+use Rattle.std.proofs.Common.{◌≡◌, ℕ, zero, suc, ◌+◌, ◌-◌, ◌*◌, ◌/◌, ◌%◌, ◌<◌, ◌≤◌, Bool, true, false, not, cond, List, [], ◌∷◌, ◌++◌, map, length, take, get_or, ℤ, pos, to_z, of_z, refl, sym, ◌∙◌, ap, arith, rules, append_assoc}
 use Rattle.std.proofs.lemmas.List.{append-nil}
 use Rattle.std.proofs.lemmas.List.FromFn.{fill_by_all, get_or-map-range_with_len, length-map-range_with_len, map-range_with_len_more}
-use Rattle.std.proofs.lemmas.Slice.{take-put_mid}
-use borrow.Rule.Slice.PartMut.{put_mid}
+use Rattle.std.proofs.lemmas.Int.{to_z-of_z}
+use Rattle.std.proofs.lemmas.Simd.{take_more_put_chunk}
+use Rattle.std.specs.Simd.Lanes.{put_chunk}
 use Rattle.std.specs.Int.{w8}
 use Rattle.std.specs.Int.RustNames.{FitsSigned}
 use Rattle.std.specs.List.{range_with_len}
 use Rattle.ssd_geo.specs.Bits.{bit_of}
-use Rattle.ssd_geo.specs.Senses.{five_senses, sense_in, soft_value, zeros_at}
+use Rattle.ssd_geo.specs.Senses.{five_senses, hard_value, sense_in, soft_value, zeros_at}
 use Rattle.ssd_geo.proofs.SenseValues.{senses_stand_in_order}
-
--- one more value
-pub one_more_value : (f : ℕ → ℤ) (values : List ℤ) (i : ℕ) (value : ℤ) → i < length values → value ≡ f i →
-    ((k : ℕ) → k < i → get_or values k (pos 0) ≡ f k) →
-    (k : ℕ) → k < i + 1 → get_or (set values i value) k (pos 0) ≡ f k
-one_more_value f values i value within is before =
-    below_more _ _
-    (λ k h. let other : k ≢ i = omega arith in rw get_or-set_other (before k h))
-    (get_or-set_same values i value (pos 0) within ∙ is)
 
 -- a list made from a function of the index, in two parts
 two_parts : (f : ℕ → ℤ) (m n : ℕ) → map f (range_with_len 0 (m + n))
@@ -38,20 +30,30 @@ two_parts f m (suc n) =
     ∙ ap (λ (ys : List ℤ). front ++ ys) (sym (map-range_with_len_more (λ i. f (m + i)) 0 n n (omega arith)))
     ∙ ap (λ (k : ℕ). front ++ map (λ i. f (m + i)) (range_with_len 0 k)) (sym last)
 
+-- values that fit their type are kept by their bits
+pub kept : (g : ℕ → ℤ) (places : List ℕ) → ((i : ℕ) → FitsSigned w8 (g i)) → map (to_z w8) (map (of_z w8) (map g places)) ≡ map g places
+kept g [] fits = refl
+kept g (i ∷ places) fits =
+    ap (λ (z : ℤ). z ∷ map (to_z w8) (map (of_z w8) (map g places))) (to_z-of_z w8 (g i) (fits i))
+    ∙ ap (λ (zs : List ℤ). g i ∷ zs) (kept g places fits)
+
 -- eight more values
 pub eight_more : (f g : ℕ → ℤ) (j : ℕ) (out values : List ℤ) → 8 * j + 8 ≤ length out →
-    values ≡ map g (range_with_len 0 8) → ((i : ℕ) → i < 8 → g i ≡ f (8 * j + i)) →
+    values ≡ map g (range_with_len 0 8) → ((i : ℕ) → i < 8 → g i ≡ f (8 * j + i)) → ((i : ℕ) → FitsSigned w8 (g i)) →
     take (8 * j) out ≡ map f (range_with_len 0 (8 * j)) →
-    take (8 * (j + 1)) (put_mid (8 * j) (8 * j + 8 - 8 * j) out values) ≡ map f (range_with_len 0 (8 * (j + 1)))
-eight_more f g j out values within is same front =
-    let eight : length values ≡ 8 = ap (λ (xs : List ℤ). length xs) is ∙ length-map-range_with_len g 0 8 in
+    take (8 * (j + 1)) (put_chunk (8 * j) out (map (to_z w8) (map (of_z w8) values))) ≡ map f (range_with_len 0 (8 * (j + 1)))
+eight_more f g j out values within is same fits front =
+    let eight = map g (range_with_len 0 8) in
+    let stored : map (to_z w8) (map (of_z w8) values) ≡ eight =
+    ap (λ (zs : List ℤ). map (to_z w8) (map (of_z w8) zs)) is ∙ kept g (range_with_len 0 8) fits in
     let further : 8 * j + 8 ≡ 8 * (j + 1) = omega arith in
-    let all : map g (range_with_len 0 8) ≡ map (λ i. f (8 * j + i)) (range_with_len 0 8) =
-    fill_by_all (λ i. f (8 * j + i)) (map g (range_with_len 0 8)) 8 (pos 0) (length-map-range_with_len g 0 8)
+    let all : eight ≡ map (λ i. f (8 * j + i)) (range_with_len 0 8) =
+    fill_by_all (λ i. f (8 * j + i)) eight 8 (pos 0) (length-map-range_with_len g 0 8)
     (λ k h. get_or-map-range_with_len g 0 8 k k (pos 0) h (omega arith) ∙ same k h) in
-    take-put_mid (8 * j) (8 * j + 8 - 8 * j) out values (8 * (j + 1)) (omega arith) (omega arith)
-    ∙ ap (λ (xs : List ℤ). xs ++ values) front
-    ∙ ap (λ (ys : List ℤ). map f (range_with_len 0 (8 * j)) ++ ys) (is ∙ all)
+    ap (λ (zs : List ℤ). take (8 * (j + 1)) (put_chunk (8 * j) out zs)) stored
+    ∙ take_more_put_chunk (8 * j) out eight (8 * (j + 1)) (omega arith) (omega arith)
+    ∙ ap (λ (zs : List ℤ). zs ++ eight) front
+    ∙ ap (λ (zs : List ℤ). map f (range_with_len 0 (8 * j)) ++ zs) all
     ∙ sym (two_parts f (8 * j) 8)
     ∙ ap (λ (n : ℕ). map f (range_with_len 0 n)) further
 
@@ -116,3 +118,8 @@ soft_value_fits (suc (suc (suc zero))) = search rules
 soft_value_fits (suc (suc (suc (suc zero)))) = search rules
 soft_value_fits (suc (suc (suc (suc (suc zero))))) = search rules
 soft_value_fits (suc (suc (suc (suc (suc (suc more)))))) = search rules
+
+-- and so does a hard one
+pub hard_value_fits : (bit : Bool) → FitsSigned w8 (hard_value bit)
+hard_value_fits true = search rules
+hard_value_fits false = search rules

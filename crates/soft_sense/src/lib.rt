@@ -4,6 +4,7 @@
 
 mod hard;
 mod soft;
+mod zeros;
 
 pub use hard::hard_values;
 pub use soft::soft_values;

@@ -1,9 +1,8 @@
-ghost use Rattle.std.specs.Prelude.{◌≡◌, ◌*◌, ◌<◌, ◌∷◌, [], cond, length, map};
-ghost use Rattle.ssd_geo.specs.Bits.{bit_of};
-ghost use Rattle.ssd_geo.specs.Senses.{five_senses, soft_value, soft_values, zeros_at};
+ghost use Rattle.std.specs.Prelude.{◌≡◌, ◌*◌, ◌≤◌, ◌∷◌, [], All, length, map};
+ghost use Rattle.ssd_geo.specs.Senses.{five_senses, soft_value, soft_values};
 
-// The value of a cell, by how many of the five senses give 0.
-const VALUES: [i8; 6] = [-96, -48, -16, 16, 48, 96];
+use crate::zeros::zero_lanes;
+use std::simd::prelude::*;
 
 /// The values of the bits of a page that was sensed five times. The senses stand one after the other.
 pub fn soft_values(five: &[u8], bytes: usize, out: &mut [i8])
@@ -19,40 +18,37 @@ pub fn soft_values(five: &[u8], bytes: usize, out: &mut [i8])
             five[3 * bytes + j],
             five[4 * bytes + j],
         ];
-        out[8 * j..8 * j + 8].copy_from_slice(&eight_soft(&at));
+        eight_soft(&at).copy_to_slice(&mut out[8 * j..]);
     }
 }
 
 // The values of the bits of five bytes, which are those of five senses of one byte.
-#[inline]
-fn eight_soft(five: &[u8; 5]) -> [i8; 8]
+#[inline(always)]
+fn eight_soft(five: &[u8; 5]) -> i8x8
     ensures { result ≡ soft_values 1 (map (λ byte. byte ∷ []) five.now) }
 {
-    let mut values = [0; 8];
-    for (i, value) in values.iter_mut().enumerate() {
-        *value = soft_at(five, i);
-    }
-    values
+    values_of(
+        zero_lanes(five[0])
+            + zero_lanes(five[1])
+            + zero_lanes(five[2])
+            + zero_lanes(five[3])
+            + zero_lanes(five[4]),
+    )
 }
 
-#[inline]
-fn soft_at(five: &[u8; 5], i: usize) -> i8
-    requires { i < 8 }
-    ensures { result ≡ soft_value (zeros_at (map (λ byte. byte ∷ []) five.now) i) }
+// The values of eight cells, by how many of the five senses give 0.
+#[inline(always)]
+fn values_of(zeros: u8x8) -> i8x8
+    requires { All (λ n. n ≤ 5) zeros }
+    ensures { result ≡ map soft_value zeros }
 {
-    let zeros = zero_at(five[0], i)
-        + zero_at(five[1], i)
-        + zero_at(five[2], i)
-        + zero_at(five[3], i)
-        + zero_at(five[4], i);
-    VALUES[zeros]
-}
-
-// 1 where bit i of a byte is 0, and 0 where it is 1.
-#[inline]
-fn zero_at(byte: u8, i: usize) -> usize
-    requires { i < 8 }
-    ensures { result ≡ cond (bit_of (byte ∷ []) i) 0 1 }
-{
-    if (byte >> i) % 2 == 1 { 0 } else { 1 }
+    let most = zeros
+        .simd_eq(u8x8::splat(4))
+        .select(i8x8::splat(48), i8x8::splat(96));
+    let more = zeros.simd_eq(u8x8::splat(3)).select(i8x8::splat(16), most);
+    let fewer = zeros.simd_eq(u8x8::splat(2)).select(i8x8::splat(-16), more);
+    let few = zeros
+        .simd_eq(u8x8::splat(1))
+        .select(i8x8::splat(-48), fewer);
+    zeros.simd_eq(u8x8::splat(0)).select(i8x8::splat(-96), few)
 }

@@ -27,6 +27,27 @@ impl Decode for AnyWord {
     }
 }
 
+// The same for the lifting size 32.
+#[derive(Clone, Copy)]
+pub struct AnyHalf;
+
+impl Decode for AnyHalf {
+    ghost use Rattle.std.specs.Prelude.{[]};
+
+    ghost matrix = { λ decoder. record { z = 32; mb = 3; nb = 6; entries = [] } };
+
+    ghost limit = { λ decoder. 1 };
+
+    fn failed(&self, _bits: &[u8]) -> u32 {
+        0
+    }
+
+    fn decode(&mut self, values: &[i8], word: &mut [u8]) -> Option<u8> {
+        decide(values, word);
+        Some(0)
+    }
+}
+
 // The bit that a value makes: 1 exactly where it is below 0.
 fn bit(values: &[i8], i: usize) -> u8
     requires { i < length values.now }

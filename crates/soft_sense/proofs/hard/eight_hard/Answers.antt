@@ -1,24 +1,7 @@
-use Rattle.std.proofs.Common.{◌≡◌, [], ◌∷◌, ◌∙◌, length, length-set, pos, arith, rules}
-use Rattle.std.proofs.lemmas.Int.{to_z-of_z}
-use Rattle.std.proofs.lemmas.List.FromFn.{fill_by_all}
-use Rattle.std.specs.Int.{w8}
-use Rattle.std.specs.Int.RustNames.{FitsSigned}
-use Rattle.ssd_geo.specs.Bits.{bit_of}
-use Rattle.ssd_geo.specs.Senses.{hard_value}
-use Rattle.soft_sense.proofs.ValueLemmas.{one_more_value}
+use Rattle.soft_sense.proofs.LaneLemmas.{eight_equal, hard_lane}
 use Rattle.soft_sense.proofs.hard.eight_hard.Goals as goal
-
-pub loop-i-preserved : goal.loop-i-preserved
-loop-i-preserved c =
-    let fits : FitsSigned w8 c.hard_at.result = search rules in
-    let long : length c.loop-i.value-items ≡ 8 = c.loop-i.invariant.long in
-    record {
-      long = length-set c.loop-i.value-items c.loop-i.i _ ∙ long;
-      values = one_more_value (λ k. hard_value (bit_of (c.args.byte ∷ []) k)) c.loop-i.value-items
-          c.loop-i.i _ (omega arith) (to_z-of_z w8 c.hard_at.result fits ∙ c.hard_at.ensures) c.loop-i.invariant.values;
-    }
 
 pub returns : goal.returns
 returns c =
-    fill_by_all (λ k. hard_value (bit_of (c.args.byte ∷ []) k)) c.loop-i.value-items 8 (pos 0)
-    c.loop-i.invariant.long (λ k h. c.loop-i.invariant.values k (omega arith))
+    let lane = hard_lane c.args.byte in
+    eight_equal (lane 0) (lane 1) (lane 2) (lane 3) (lane 4) (lane 5) (lane 6) (lane 7)

@@ -1,0 +1,7 @@
+use Rattle.soft_sense.proofs.LaneLemmas.{eight_equal, zero_lane}
+use Rattle.soft_sense.proofs.zeros.zero_lanes.Goals as goal
+
+pub returns : goal.returns
+returns c =
+    let lane = zero_lane c.args.byte in
+    eight_equal (lane 0) (lane 1) (lane 2) (lane 3) (lane 4) (lane 5) (lane 6) (lane 7)
