@@ -270,7 +270,9 @@ fn a_fault_is_named_at_each_place(rt: HostRuntime) -> Result<(), Fail> {
 
 #[test]
 fn rows_hold_a_page_and_its_block(rt: HostRuntime) -> Result<(), Fail> {
-    let shape = Shape::new(1, 1, 3, 8, 16, 64, 3, 6, 8, 8).ok().ok_or("shape")?;
+    let shape = Shape::new(1, 1, 3, 8, 16, 64, 3, 6, 8, 8)
+        .ok()
+        .ok_or("shape")?;
     assert_eq!(rt; shape.superblocks, 8);
     assert_eq!(rt; shape.pages, 16);
     assert_eq!(rt; row_address(&shape, 5, 3), 0x53);
