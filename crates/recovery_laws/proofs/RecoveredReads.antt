@@ -59,7 +59,7 @@ module _ (base : ChannelBase) (contents : List (Tag × List ℕ)) (row : ℕ) (d
       data_after_trim base.shape.bytes (named == row) data_bytes (plain_of base contents past row) older plain
   data_step past tag kind writes older plain = older plain
 
-  plain_is_data : (past : List Entry) → All (λ entry. WritesData base.shape.bytes contents entry.tag entry.kind) past →
+  pub plain_is_data : (past : List Entry) → All (λ entry. WritesData base.shape.bytes contents entry.tag entry.kind) past →
       plain_of base contents past row ≡ bytes data_bytes → IsData base.shape.bytes data_bytes
   plain_is_data [] writes plain = image_has_none base.shape.bytes (slice_index_or base.rows row Row.Empty) data_bytes plain
   plain_is_data (entry ∷ past) writes plain =

@@ -72,7 +72,7 @@ image_untold Row.Lost data_bytes e = absurd (cc)
 image_untold (Row.Page slot serial) data_bytes e = absurd (cc)
 
 -- a page with a word is programmed
-has_word : (page : Option StoredPage) (word : List ℕ) → word_of_page page ≡ Some word → IsSome page
+pub has_word : (page : Option StoredPage) (word : List ℕ) → word_of_page page ≡ Some word → IsSome page
 has_word None word e = absurd (cc)
 has_word (Some page) word e = refl
 

@@ -38,19 +38,19 @@ all_found coding accepts kept (Some codes) word is_found is_accepted =
     accepted_is coding codes word (accepts (coding.joined codes)) same (ap accepts same ∙ is_accepted)
 
 -- the first sense decides then
-first_found : (coding : Coding) (accepts : List ℕ → Bool) (after : After) (levels : List ℤ) (level : ℤ) (rung : ℕ) (sense word : List ℕ) → slice_get levels 0 ≡ Some level
+first_found : (coding : Coding) (accepts : List ℕ → Bool) (after : After) (levels : List ℤ) (level : ℤ) (rung : ℕ) (sense word : List ℕ) (rest : List (List ℕ)) → slice_get levels 0 ≡ Some level
     → option_map coding.joined (all_kept (kept_with (coding.hard sense) 0 (none_kept coding))) ≡ Some word → accepts word ≡ true
-    → hard_work coding accepts after levels rung (none_kept coding) (sense ∷ []) ≡ found rung word []
-first_found coding accepts after [] level rung sense word is is_found is_accepted = absurd (cc)
-first_found coding accepts after (first ∷ levels) level rung sense word is is_found is_accepted =
+    → hard_work coding accepts after levels rung (none_kept coding) (sense ∷ rest) ≡ found rung word rest
+first_found coding accepts after [] level rung sense word rest is is_found is_accepted = absurd (cc)
+first_found coding accepts after (first ∷ levels) level rung sense word rest is is_found is_accepted =
     let found_is : page_decoded coding accepts (coding.hard sense) (none_kept coding) ≡ whole word =
     all_found coding accepts (kept_with (coding.hard sense) 0 (none_kept coding)) (all_kept (kept_with (coding.hard sense) 0 (none_kept coding))) word is_found is_accepted in
     rw (found_is, hard_work) refl
 
-pub recovers_first : (coding : Coding) (accepts : List ℕ → Bool) (place : Place) (others : List Place) (closed : Bool) (level : ℤ) (sense word : List ℕ) → slice_get coding.levels 0 ≡ Some level
+pub recovers_first : (coding : Coding) (accepts : List ℕ → Bool) (place : Place) (others : List Place) (closed : Bool) (level : ℤ) (sense word : List ℕ) (rest : List (List ℕ)) → slice_get coding.levels 0 ≡ Some level
     → option_map coding.joined (all_kept (kept_with (coding.hard sense) 0 (none_kept coding))) ≡ Some word → accepts word ≡ true
-    → ladder coding accepts place others closed (sense ∷ []) ≡ recovered 0 word
-recovers_first coding accepts place others closed level sense word is is_found is_accepted =
-    let work : place_work coding accepts (sense ∷ []) ≡ found 0 word [] =
-    first_found coding accepts (soft_work coding accepts (best_level coding (sense ∷ []))) coding.levels level 0 sense word is is_found is_accepted in
+    → ladder coding accepts place others closed (sense ∷ rest) ≡ recovered 0 word
+recovers_first coding accepts place others closed level sense word rest is is_found is_accepted =
+    let work : place_work coding accepts (sense ∷ rest) ≡ found 0 word rest =
+    first_found coding accepts (soft_work coding accepts (best_level coding (sense ∷ rest))) coding.levels level 0 sense word rest is is_found is_accepted in
     rw (work, ladder) refl

@@ -1,16 +1,16 @@
--- No row of a channel that began without pages is lost: only writes and trims change one.
-use Rattle.std.proofs.Common.{◌≢◌, ℕ, ◌==◌, Bool, true, false, List, [], ◌∷◌, sym, ◌∙◌}
+-- A row is lost only by an entry that condemns its page.
+use Rattle.std.proofs.Common.{◌≢◌, ℕ, ◌==◌, Bool, true, false, List, [], ◌∷◌, Option, Some, None}
+use Rattle.std.specs.Prelude.{option_map}
+use Rattle.std.proofs.lemmas.List.Elements.{All-head, All-tail}
 use Rattle.ssd_geo.specs.declared.entry.Entry.{Entry}
 use Rattle.ssd_geo.specs.declared.kind.Kind.{Kind}
+use Rattle.ssd_geo.specs.declared.look.Look.{Look}
 use Rattle.ssd_geo.specs.declared.row.Row.{Row}
 use Rattle.ssd_geo.specs.declared.slot.Slot.{Slot}
 use Rattle.ssd_geo.specs.declared.tag.Tag.{Tag}
-use Rattle.ssd_histories.specs.PastRows.{row_of, serial_of}
-use Rattle.ssd_histories.specs.Start.{Start}
-use Rattle.ssd_histories.proofs.UsedSlots.{made}
-use Rattle.run_laws.specs.FirstSenses.{NoPageIsLost}
-use Rattle.run_laws.specs.ServedPasts.{IsPlainKind}
-use Rattle.run_laws.proofs.BlankRows.{blank_row, newest_is_plain, past_is_plain}
+use Rattle.ssd_histories.specs.History.{look_of}
+use Rattle.ssd_histories.specs.PastRows.{row_after, row_change, row_of, serial_of}
+use Rattle.run_laws.specs.FirstSenses.{IsNoCondemn, LostRowsWereCondemned}
 
 -- a row isn't lost where neither what it may have changed to nor what it held is
 kept_row : (b : Bool) (to before : Row) → to ≢ Row.Lost → before ≢ Row.Lost →
@@ -24,25 +24,25 @@ page_is_kept slot serial e = absurd (cc)
 empty_is_kept : Row.Empty ≢ Row.Lost
 empty_is_kept e = absurd (cc)
 
--- nor after one more entry of a plain kind
-row_is_kept : (start : Start) (contents : List (Tag × List ℕ)) (past : List Entry) (row : ℕ) (tag : Tag)
-    (kind : Kind) → IsPlainKind start.base.shape.bytes contents tag kind
-    → row_of start.base past row ≢ Row.Lost → row_of start.base (made tag kind ∷ past) row ≢ Row.Lost
-row_is_kept start contents past row tag (Kind.Write named slot) plain h =
-    kept_row (named == row) (Row.Page slot (serial_of start.base.session tag))
-    (row_of start.base past row) (page_is_kept slot (serial_of start.base.session tag)) h
-row_is_kept start contents past row tag (Kind.Trim named) plain h =
-    kept_row (named == row) Row.Empty (row_of start.base past row) empty_is_kept h
-row_is_kept start contents past row tag (Kind.Look looked found closed) plain h = h
-row_is_kept start contents past row tag (Kind.Sense at place level) plain h = h
-row_is_kept start contents past row tag (Kind.Leave at) plain h = h
-row_is_kept start contents past row tag (Kind.Age die sb amount) plain h = h
-row_is_kept start contents past row tag kind plain h = absurd plain
+kept_by_copy : (look : Option Look) (slot : Slot) (row : ℕ) (before : Row) → before ≢ Row.Lost →
+    row_after (option_map (λ looked. (looked.row, Row.Page slot looked.serial)) look) row before ≢ Row.Lost
+kept_by_copy None slot row before h = h
+kept_by_copy (Some look) slot row before h =
+    kept_row (look.row == row) (Row.Page slot look.serial) before (page_is_kept slot look.serial) h
 
-pub no_page_lost : NoPageIsLost
-no_page_lost start contents [] row plain e =
-    absurd (empty_is_kept (sym (blank_row start row plain.is_plain_start) ∙ e))
-no_page_lost start contents (entry ∷ past) row plain e =
-    row_is_kept start contents past row entry.tag entry.kind
-    (newest_is_plain start contents entry past plain)
-    (no_page_lost start contents past row (past_is_plain start contents entry past plain)) e
+-- nor after one more entry
+row_is_kept : (session : ℕ) (past : List Entry) (row : ℕ) (before : Row) (tag : Tag) (kind : Kind) → IsNoCondemn kind →
+    before ≢ Row.Lost → row_after (row_change session past tag kind) row before ≢ Row.Lost
+row_is_kept session past row before tag (Kind.Write named slot) none h =
+    kept_row (named == row) (Row.Page slot (serial_of session tag)) before (page_is_kept slot (serial_of session tag)) h
+row_is_kept session past row before tag (Kind.Trim named) none h = kept_row (named == row) Row.Empty before empty_is_kept h
+row_is_kept session past row before tag (Kind.Move at slot) none h = kept_by_copy (look_of past at) slot row before h
+row_is_kept session past row before tag (Kind.Condemn at) none h = absurd none
+row_is_kept session past row before tag kind none h = h
+
+pub lost_rows_were_condemned : LostRowsWereCondemned
+lost_rows_were_condemned base [] row none began = began
+lost_rows_were_condemned base (entry ∷ past) row none began =
+    row_is_kept base.session past row (row_of base past row) entry.tag entry.kind
+    (All-head (λ (other : Entry). IsNoCondemn other.kind) entry past none)
+    (lost_rows_were_condemned base past row (All-tail (λ (other : Entry). IsNoCondemn other.kind) entry past none) began)

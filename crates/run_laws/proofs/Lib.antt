@@ -1,9 +1,10 @@
 pub mod AddedReplies
-pub mod BlankRows
 pub mod ChangedRuns
+pub mod CopiedPages
 pub mod CountedFaults
 pub mod CountedWrites
 pub mod FirstLadders
+pub mod FreshCells
 pub mod KeptRows
 pub mod LookSenses
 pub mod MadeCalls
@@ -27,5 +28,4 @@ pub mod StoppedRuns
 pub mod TaggedData
 pub mod UndrainedRuns
 pub mod UsedRoom
-pub mod WrittenPages
 pub mod WrittenRoom

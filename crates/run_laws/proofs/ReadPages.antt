@@ -11,8 +11,8 @@ use Rattle.ssd_geo.specs.Cells.{sensed}
 use Rattle.ssd_geo.specs.Coding.{Coding, coding_of}
 use Rattle.ssd_histories.specs.History.{look_of}
 use Rattle.ssd_geo.specs.Ladder.{all_kept, asks, kept_with, ladder_over, none_kept, other_places, recovered}
-use Rattle.ssd_histories.specs.PastPages.{ladder_of, levels_in, page_of, senses_of}
-use Rattle.ssd_histories.specs.PlainMap.{bytes, plain_of}
+use Rattle.ssd_histories.specs.PastPages.{ladder_of, levels_in, page_of, senses_of, word_of_page}
+use Rattle.ssd_histories.specs.PlainMap.{IsRecoveredPage, bytes}
 use Rattle.ssd_histories.specs.Replies.{bytes_of_word}
 use Rattle.ssd_histories.specs.Start.{Start}
 use Rattle.ssd_geo.specs.Stripe.{place_of_slot}
@@ -20,7 +20,13 @@ use Rattle.run_laws.specs.FirstSenses.{PagesAreReadAtOnce, ReadsBack, WordIsRead
 use Rattle.ssd_histories.specs.ServedCalls.{after_look}
 use Rattle.run_laws.proofs.FirstLadders.{asks_first, recovers_first}
 use Rattle.run_laws.proofs.LookSenses.{none_sensed}
-use Rattle.run_laws.proofs.WrittenPages.{HasFreshCells, HoldsWord, rows_have_fresh_cells}
+use Rattle.run_laws.proofs.CopiedPages.{copies_are_recovered}
+use Rattle.run_laws.proofs.FreshCells.{HasFreshCells, told_words_are_fresh}
+use Rattle.recovery_laws.proofs.RecoveredReads.{plain_is_data}
+use Rattle.recovery_laws.proofs.RowWords.{rows_have_words}
+use Rattle.recovery_laws.proofs.SettledLadders.{recovered_find}
+use Rattle.recovery_laws.specs.RecoveredReads.{IsWrittenPast}
+use Rattle.ssd_histories.specs.LastWrites.{IsData}
 
 -- the look of a read
 abbrev read_look : ℕ → Slot → ℕ → Bool → List Entry → Look
@@ -93,29 +99,38 @@ sense_recovers coding start contents tag row slot serial closed level past word 
     (look_before_sense dies tag row slot serial closed level past ∙ look_here tag row slot serial closed past)
     ∙ ap (λ (senses : List (List ℕ)). ladder_over coding dies (Some (read_look row slot serial closed past)) senses)
     (one_sense coding start contents tag row slot serial closed level past none ∙ ap (λ (sense : List ℕ). sense ∷ []) sense_is)
-    ∙ recovers_first coding (coding.has_head serial row) place (other_places dies place) closed level word word is_first is_found has_head
+    ∙ recovers_first coding (coding.has_head serial row) place (other_places dies place) closed level word word [] is_first is_found has_head
 
 pub pages_are_read : PagesAreReadAtOnce
-pages_are_read start contents past tag row slot serial closed unaged lt is =
+pages_are_read start contents past tag row slot serial closed data_bytes unaged lt is plain =
+    let coding : Coding = coding_of start.base in
+    let written : IsWrittenPast start contents past = unaged.is_written in
     let reads : ReadsBack start.base = unaged.reads_back in
-    let held : HoldsWord (HasFreshCells start.base) start.base serial row (page_of (coding_of start.base) start contents past (place_of_slot start.base.shape.dies slot)) (plain_of start.base contents past row) =
-    rows_have_fresh_cells start contents past row unaged.is_plain unaged.no_ageing lt slot serial is in
-    let read : WordIsRead start.base reads.level serial row held.data_bytes = reads.words serial row held.data_bytes held.is_data in
-    let none : senses_of (coding_of start.base) start contents past (length past) ≡ [] =
-    none_sensed (ladder_of (coding_of start.base) start contents) (coding_of start.base) start contents past (length past) unaged.is_plain.is_lawful (same_length (length past)) in
-    let sense_is : first_sense start contents tag row slot serial closed reads.level past ≡ (coding_of start.base).encoded serial row held.data_bytes =
-    ap (sensed reads.level) held.holds.levels_are ∙ read.sense_is held.holds.number held.holds.erases in
+    let place : Place = place_of_slot start.base.shape.dies slot in
+    let stands : word_of_page (page_of coding start contents past place) ≡ Some (coding.encoded serial row data_bytes) =
+    rows_have_words coding start contents (IsRecoveredPage coding start contents past) past row written.has_named_pages.has_due_pages
+    written.has_named_pages.rows_name_used written.is_lawful (recovered_find coding start contents past) lt slot serial data_bytes
+    is (copies_are_recovered start contents past unaged row data_bytes lt plain) plain in
+    let fresh : HasFreshCells start.base (coding.encoded serial row data_bytes) (page_of coding start contents past place) =
+    told_words_are_fresh coding start contents past place (coding.encoded serial row data_bytes) unaged.no_ageing stands in
+    let is_data : IsData start.base.shape.bytes data_bytes =
+    plain_is_data start.base contents row data_bytes past written.write_data plain in
+    let read : WordIsRead start.base reads.level serial row data_bytes = reads.words serial row data_bytes is_data in
+    let none : senses_of coding start contents past (length past) ≡ [] =
+    none_sensed (ladder_of coding start contents) coding start contents past (length past) written.is_lawful (same_length (length past)) in
+    let sense_is : first_sense start contents tag row slot serial closed reads.level past ≡ coding.encoded serial row data_bytes =
+    ap (sensed reads.level) fresh.levels_are ∙ read.sense_is fresh.number fresh.erases in
     record {
       level = reads.level;
       is_first = reads.is_first;
-      asks_first = look_asks (coding_of start.base) start contents tag row slot serial closed reads.level past reads.is_first none;
+      asks_first = look_asks coding start contents tag row slot serial closed reads.level past reads.is_first none;
       is_recovered =
-          sense_recovers (coding_of start.base) start contents tag row slot serial closed reads.level past ((coding_of start.base).encoded serial row held.data_bytes)
+          sense_recovers coding start contents tag row slot serial closed reads.level past (coding.encoded serial row data_bytes)
           reads.is_first none sense_is read.is_found read.has_head
           ∙ ap (recovered 0) (sym sense_is);
-      fails_none = ap ((coding_of start.base).failed) sense_is ∙ read.fails_none;
-      has_head = ap ((coding_of start.base).has_head serial row) sense_is ∙ read.has_head;
-      is_plain = held.row_holds ∙ ap bytes (sym (ap (bytes_of_word start.base.shape.bytes) sense_is ∙ read.has_data));
+      fails_none = ap (coding.failed) sense_is ∙ read.fails_none;
+      has_head = ap (coding.has_head serial row) sense_is ∙ read.has_head;
+      is_plain = plain ∙ ap bytes (sym (ap (bytes_of_word start.base.shape.bytes) sense_is ∙ read.has_data));
     }
   where
     same_length : (n : ℕ) → n ≤ n

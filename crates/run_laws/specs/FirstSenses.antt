@@ -1,6 +1,6 @@
 -- When is a page read from the first sense of its look? Where the fresh cells of each word give it back at the first read level, and
 -- no block was aged since, the ladder asks for that sense alone, and the read gives the data of the row's latest write.
-use Rattle.std.specs.Prelude.{ℕ, ◌≡◌, ◌≢◌, ◌<◌, Bool, true, List, ◌∷◌, length, option_map, slice_get, Some, All, ℤ, ⊤}
+use Rattle.std.specs.Prelude.{ℕ, ◌≡◌, ◌≢◌, ◌<◌, Bool, true, List, [], ◌∷◌, length, option_map, slice_get, Some, All, ℤ, ⊤}
 use Rattle.ssd_geo.specs.Cells.{fresh_levels, sensed}
 use Rattle.ssd_geo.specs.Coding.{coding_of}
 use Rattle.ssd_geo.specs.Ladder.{all_kept, asks, kept_with, none_kept, recovered}
@@ -18,8 +18,8 @@ use Rattle.ssd_geo.specs.declared.row.Row.{Row}
 use Rattle.ssd_geo.specs.declared.slot.Slot.{Slot}
 use Rattle.ssd_geo.specs.declared.tag.Tag.{Tag}
 use Rattle.ssd_histories.specs.ServedCalls.{after_look}
-use Rattle.run_laws.specs.ServedPasts.{IsPlainPast}
 use Rattle.ssd_histories.specs.LastWrites.{IsData}
+use Rattle.recovery_laws.specs.RecoveredReads.{IsWrittenPast}
 
 -- what the fresh cells of a page's word give at the first read level: the word, whose codewords are all found at once, and
 -- which has the page's head and data
@@ -46,9 +46,9 @@ abbrev pub IsNoAgeing : Kind → Type 0
 IsNoAgeing (Kind.Age die sb amount) = ⊥
 IsNoAgeing _ = ⊤
 
--- a past of a channel that began without pages, of writes, trims and reads, whose words are read from their first sense
+-- a lawful past whose writes have data and whose words are read from their first sense, where no block was aged
 pub record IsUnagedPast (start : Start) (contents : List (Tag × List ℕ)) (past : List Entry) : Type 0 where
-  pub is_plain : IsPlainPast start contents past
+  pub is_written : IsWrittenPast start contents past
   pub reads_back : ReadsBack start.base
   pub no_ageing : All (λ entry. IsNoAgeing entry.kind) past
 
@@ -80,15 +80,22 @@ pub record IsReadAtOnce (start : Start) (contents : List (Tag × List ℕ)) (tag
       plain_of start.base contents past row
       ≡ bytes (bytes_of_word start.base.shape.bytes (first_sense start contents tag row slot serial closed level past))
 
--- each page that a row names is read at once
+-- each page that a row names is read at once, where the row has data by its writes and trims
 abbrev pub PagesAreReadAtOnce : Type 0
 PagesAreReadAtOnce =
-    (start : Start) (contents : List (Tag × List ℕ)) (past : List Entry) (tag : Tag) (row : ℕ) (slot : Slot) (serial : ℕ) (closed : Bool) →
+    (start : Start) (contents : List (Tag × List ℕ)) (past : List Entry) (tag : Tag) (row : ℕ) (slot : Slot) (serial : ℕ)
+    (closed : Bool) (data_bytes : List ℕ) →
     IsUnagedPast start contents past → row < start.base.shape.rows → row_of start.base past row ≡ Row.Page slot serial →
+    plain_of start.base contents past row ≡ bytes data_bytes →
     IsReadAtOnce start contents tag row slot serial closed past
 
--- no page is lost, also where blocks were aged
-abbrev pub NoPageIsLost : Type 0
-NoPageIsLost =
-    (start : Start) (contents : List (Tag × List ℕ)) (past : List Entry) (row : ℕ) →
-    IsPlainPast start contents past → row_of start.base past row ≢ Row.Lost
+-- an entry condemns no page
+abbrev pub IsNoCondemn : Kind → Type 0
+IsNoCondemn (Kind.Condemn at) = ⊥
+IsNoCondemn _ = ⊤
+
+-- a row is lost only where it began so or its page was condemned
+abbrev pub LostRowsWereCondemned : Type 0
+LostRowsWereCondemned =
+    (base : ChannelBase) (past : List Entry) (row : ℕ) →
+    All (λ entry. IsNoCondemn entry.kind) past → row_of base [] row ≢ Row.Lost → row_of base past row ≢ Row.Lost

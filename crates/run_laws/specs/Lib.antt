@@ -3,7 +3,6 @@ pub mod FirstSenses
 pub mod Headline
 pub mod PrintedRuns
 pub mod Runs
-pub mod ServedPasts
 pub mod ServedRuns
 pub mod SerialRuns
 pub mod Serials

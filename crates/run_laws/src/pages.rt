@@ -1,5 +1,5 @@
 //! Laws of the pages that a channel holds.
-ghost use Rattle.run_laws.specs.FirstSenses.{NoPageIsLost, PagesAreReadAtOnce};
+ghost use Rattle.run_laws.specs.FirstSenses.{LostRowsWereCondemned, PagesAreReadAtOnce};
 ghost use Rattle.run_laws.specs.WrittenRoom.{UncollectedPastsHaveRoom};
 
 /// The host has room on a channel of a blank drive exactly while fewer pages than fit were written to it, as long as nothing
@@ -9,12 +9,12 @@ pub fn uncollected_pasts_have_room()
 {}
 
 /// Where no block was aged, a page that a row names is recovered from the first sense of a look, and has the data of the
-/// row's latest write.
+/// row's latest write: in every lawful past, whatever was copied, erased or failed.
 pub fn pages_are_read_at_once()
     ensures { PagesAreReadAtOnce }
 {}
 
-/// No row is lost.
-pub fn no_page_is_lost()
-    ensures { NoPageIsLost }
+/// A row is lost only where it began so or its page was condemned.
+pub fn lost_rows_were_condemned()
+    ensures { LostRowsWereCondemned }
 {}

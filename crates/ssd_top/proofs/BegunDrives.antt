@@ -1,5 +1,5 @@
 -- Before the first call all that is asked of the worker and the channels of a blank drive holds.
-use Rattle.std.proofs.Common.{ℕ, zero, suc, ◌≡◌, ◌+◌, ◌-◌, ◌*◌, ◌%◌, ◌^◌, ◌<◌, ◌≤◌, ◌==◌, ◌&&◌, nat_le, Bool, true, false, not, List, [], ◌∷◌, length, map, replicate, get_or, slice_get, ℤ, Option, Some, All, None, is_none, refl, ap, sym, subst, ◌∙◌, arith, lit≤}
+use Rattle.std.proofs.Common.{ℕ, zero, suc, ◌≡◌, ◌+◌, ◌^◌, ◌<◌, ◌≤◌, ◌==◌, ◌&&◌, nat_le, true, not, List, [], ◌∷◌, length, map, replicate, get_or, slice_get, ℤ, Some, All, None, refl, ap, sym, subst, ◌∙◌, arith, lit≤}
 use Rattle.std.specs.List.{list_all, range_with_len}
 use Rattle.std.proofs.lemmas.Bool.Decides.{nat_tests}
 use Rattle.std.proofs.lemmas.List.FromFn.{length-range_with_len}
@@ -18,9 +18,8 @@ use Rattle.ssd_top.specs.Handed.{handed_in, history_limit, no_faults, nothing_ha
 use Rattle.run_laws.specs.WrittenRoom.{HasBlankBlocks, HasWrites}
 use Rattle.run_laws.specs.Serials.{HasSmallSerial, HasSmallSerials}
 use Rattle.run_laws.proofs.UndrainedRuns.{undrained_runs_begin, writes_begin}
-use Rattle.ssd_geo.specs.BaseMatrix.{IsAccepted, MatrixFault}
 use Rattle.ssd_geo.specs.Coding as Coding
-use Rattle.ssd_geo.specs.Limits.{Sizes, cells_of, is_column_count, is_within}
+use Rattle.ssd_geo.specs.Limits.{Sizes, is_within}
 use Rattle.ssd_geo.specs.Faults.{NeverFell, RoseBy}
 use Rattle.ssd_geo.specs.declared.shape.Shape.{Shape}
 use Rattle.ssd_histories.specs.HistoryRoom.{found_room}
@@ -195,35 +194,6 @@ range_is low high n e =
     let first : low ≤ n = grind (arith, nat_tests) in
     let last : n ≤ high = grind (arith, nat_tests) in
     (first, last)
-
-first_of_four : (a b c d : Bool) → (a && b && c && d) ≡ true → a ≡ true
-first_of_four true b c d e = refl
-first_of_four false b c d e = absurd (cc)
-
-columns_are : (sizes : Sizes) → is_column_count sizes ≡ true → (sizes.mb + 1 ≤ sizes.nb) × (sizes.nb ≤ 128)
-columns_are sizes e =
-    range_is (sizes.mb + 1) 128 sizes.nb
-    (first_of_four (is_within (sizes.mb + 1) 128 sizes.nb) ((sizes.nb - sizes.mb) * sizes.z % 8 == 0) (sizes.nb * sizes.z % 8 == 0)
-    (nat_le (cells_of sizes) (2 ^ 28)) e)
-
--- the base matrix of a head has a code
-head_accepted : (head : Head) → IsHead head → IsAccepted (matrix_of_head head)
-head_accepted head ok =
-    let z = range_is 4 1024 head.sizes.z ok.lifting in
-    let mb = range_is 3 16 head.sizes.mb ok.base_rows in
-    let nb = columns_are head.sizes ok.base_columns in
-    record {
-      within = record {
-        z_low = z.0;
-        z_high = z.1;
-        mb_low = mb.0;
-        mb_high = mb.1;
-        nb_low = omega (arith, nb.0);
-        nb_high = nb.1;
-        entries = ok.entry_count;
-      };
-      faultless = ap (λ (fault : Option MatrixFault). is_none fault) ok.faultless;
-    }
 
 -- every row of empty ones is empty
 empty_at : (n row : ℕ) → get_or (replicate n Row.Empty) row Row.Empty ≡ Row.Empty

@@ -79,6 +79,6 @@ reads_back base level quiet = record {
 
 -- so each page is read from its first sense, as long as no block was aged
 pub noiseless_pages : NoiselessPagesAreReadAtOnce
-noiseless_pages start contents past tag row slot serial closed level quiet plain none_aged low names =
-    pages_are_read start contents past tag row slot serial closed
-    (record { is_plain = plain; reads_back = reads_back start.base level quiet; no_ageing = none_aged }) low names
+noiseless_pages start contents past tag row slot serial closed data_bytes level quiet written none_aged low names plain =
+    pages_are_read start contents past tag row slot serial closed data_bytes
+    (record { is_written = written; reads_back = reads_back start.base level quiet; no_ageing = none_aged }) low names plain

@@ -1,8 +1,7 @@
 -- A run that was served so far: what holds of the channel of its next call, that the run goes on
 -- after that call, and that it stops where the channel's history has no room.
-use Rattle.std.proofs.Common.{ℕ, zero, suc, ◌≡◌, ◌+◌, ◌%◌, ◌<◌, ◌≤◌, ◌==◌, nat_lt, true, false, List, [], ◌∷◌, ◌++◌, length, Some, refl, sym, ap, subst, ◌∙◌, inl, inr, arith, length-set}
-use Rattle.std.specs.Prelude.{All, Bool, IsTrue, slice_get, slice_set, option_map}
-use Rattle.std.proofs.lemmas.Bool.Decides.{nat_tests}
+use Rattle.std.proofs.Common.{ℕ, zero, suc, ◌≡◌, ◌%◌, ◌<◌, ◌≤◌, ◌==◌, nat_lt, true, false, List, [], ◌∷◌, ◌++◌, length, Some, refl, sym, ap, subst, ◌∙◌, inl, inr, arith, length-set}
+use Rattle.std.specs.Prelude.{All, Bool, slice_get, slice_set, option_map}
 use Rattle.std.specs.List.{list_all}
 use Rattle.std.proofs.lemmas.List.{length-append, length-map, map-set}
 use Rattle.std.proofs.lemmas.List.Sums.{count_by-le-length}
@@ -25,10 +24,9 @@ use Rattle.run_laws.proofs.TaggedData.{tags_give_data}
 use Rattle.run_laws.proofs.UndrainedRuns.{undrained_runs_go_on, writes_go_on}
 use Rattle.run_laws.proofs.WrittenRoom.{uncollected_pasts_have_room}
 use Rattle.run_laws.proofs.SparedChannels.{serves_find_room, serves_spare_dies}
-use Rattle.run_laws.proofs.SpelledCalls.{IsSmallVerb, Keeps, serves_spelled}
+use Rattle.run_laws.proofs.SpelledCalls.{Keeps, serves_spelled}
 use Rattle.run_laws.proofs.SpelledPasts.{IsSmallTag}
 use Rattle.run_laws.specs.Serials.{HasSmallSerials}
-use Rattle.run_laws.proofs.UsedRoom as Lists
 use Rattle.ssd_geo.specs.Faults.{RoseBy}
 use Rattle.ssd_histories.specs.HistoryRoom.{found_room}
 use Rattle.ssd_histories.specs.Standing.{CountsFaults, count_at, faults_of}
@@ -39,13 +37,11 @@ use Rattle.ssd_formats.specs.TraceText.{content_bytes, contents_of, is_of_actor}
 use Rattle.ssd_geo.specs.declared.entry.Entry.{Entry}
 use Rattle.ssd_geo.specs.declared.reply.Reply.{Reply}
 use Rattle.ssd_geo.specs.declared.tag.Tag.{Tag}
-use Rattle.ssd_geo.specs.declared.shape.Shape.{Shape}
 use Rattle.ssd_geo.specs.declared.trace.Content.{Content}
 use Rattle.ssd_geo.specs.declared.trace.TraceCall.{TraceCall}
 use Rattle.ssd_geo.specs.declared.trace.Verb.{Verb}
 use Rattle.ssd_top.specs.ChannelCalls.{HasOwnData, MayServe, IsRefusedOn, IsServedOn}
 use Rattle.ssd_top.specs.Handed.{no_faults}
-use Rattle.ssd_top.specs.Forms.{are_served, is_served_verb}
 use Rattle.ssd_top.specs.Running.{FitsDrive, HasStopped, IsChannelOf, IsRunning, pasts_of}
 use Rattle.ssd_top.proofs.FittingCalls.{write_fits}
 use Rattle.ssd_top.proofs.ServedVerbs.{all_plain, channel_low, own_channel, small_verb}

@@ -3,10 +3,11 @@
 -- programmed one. An ageing may end that.
 use Rattle.std.specs.Prelude.{ℕ, ◌≡◌, ◌<◌, Bool, List, ℤ, Some, slice_get, All, ◌<ℤ◌, ◌≤ℤ◌}
 use Rattle.run_laws.specs.FirstSenses.{IsNoAgeing, IsReadAtOnce}
-use Rattle.run_laws.specs.ServedPasts.{IsPlainPast}
+use Rattle.recovery_laws.specs.RecoveredReads.{IsWrittenPast}
 use Rattle.ssd_geo.specs.BaseMatrix.{IsAccepted}
 use Rattle.ssd_geo.specs.Coding.{matrix_of}
 use Rattle.ssd_histories.specs.PastRows.{row_of}
+use Rattle.ssd_histories.specs.PlainMap.{bytes, plain_of}
 use Rattle.ssd_histories.specs.Start.{Start}
 use Rattle.ssd_geo.specs.declared.base.ChannelBase.{ChannelBase}
 use Rattle.ssd_geo.specs.declared.entry.Entry.{Entry}
@@ -24,12 +25,14 @@ pub record IsNoiseless (base : ChannelBase) (level : ℤ) : Type 0 where
   pub not_above_programmed : level ≤ℤ base.law.programmed
 
 -- A law, the contract of a function without a body: each page that a row of such a channel names is
--- read at once.
+-- read at once, where the row has data by its writes and trims. It holds of every lawful past without
+-- an ageing, whatever was copied, erased or failed.
 abbrev pub NoiselessPagesAreReadAtOnce : Type 0
 NoiselessPagesAreReadAtOnce =
     (start : Start) (contents : List (Tag × List ℕ)) (past : List Entry) (tag : Tag) (row : ℕ)
-    (slot : Slot) (serial : ℕ) (closed : Bool) (level : ℤ) →
-    IsNoiseless start.base level → IsPlainPast start contents past →
+    (slot : Slot) (serial : ℕ) (closed : Bool) (data_bytes : List ℕ) (level : ℤ) →
+    IsNoiseless start.base level → IsWrittenPast start contents past →
     All (λ entry. IsNoAgeing entry.kind) past →
     row < start.base.shape.rows → row_of start.base past row ≡ Row.Page slot serial →
+    plain_of start.base contents past row ≡ bytes data_bytes →
     IsReadAtOnce start contents tag row slot serial closed past
