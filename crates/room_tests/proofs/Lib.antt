@@ -1,2 +1,3 @@
+mod SmallCalls
 mod SmallStart
 mod TriedSteps

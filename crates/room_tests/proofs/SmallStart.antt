@@ -1,5 +1,5 @@
 -- The blank channel of the small drive may begin.
-use Rattle.std.proofs.Common.{◌≡◌, ℕ, ◌*◌, ◌<◌, ◌≤◌, ◌^◌, Bool, false, List, [], ◌∷◌, length, get_or, replicate, refl, sym, ◌∙◌, ap, subst, lit<, lit≤, arith, All, inl, inr}
+use Rattle.std.proofs.Common.{◌≡◌, ℕ, zero, suc, ◌*◌, ◌<◌, ◌≤◌, ◌^◌, Bool, false, List, [], ◌∷◌, length, get_or, replicate, refl, sym, ◌∙◌, ap, subst, lit<, lit≤, arith, All, inl, inr}
 use Rattle.std.specs.Prelude.{IsTrue, ℤ}
 use Rattle.std.proofs.lemmas.Bool.{cases_lt}
 use Rattle.std.proofs.lemmas.List.{get_or-replicate, get_or_past, length-replicate}
@@ -8,11 +8,13 @@ use Rattle.ssd_geo.specs.Bits.{bit_sum}
 use Rattle.ssd_geo.specs.BaseMatrix.{IsAccepted, layer_of}
 use Rattle.ssd_histories.specs.Blocks.{blank_block, block_at}
 use Rattle.ssd_geo.specs.Coding.{matrix_of}
-use Rattle.ssd_geo.specs.Codewords.{is_odd_sum}
+use Rattle.ssd_geo.specs.Codewords.{IsCodeword, is_odd_sum}
 use Rattle.ssd_geo.specs.Layer.{variables_of}
-use Rattle.ssd_geo.specs.Limits.{IsWithinLimits}
+use Rattle.ssd_geo.specs.Limits.{IsWithinLimits, Sizes, page_cells_of}
+use Rattle.ssd_histories.specs.HistoryExamples.{small_sizes}
 use Rattle.ssd_histories.specs.PageMap.{names_slot, names_within, row_at}
-use Rattle.ssd_geo.specs.Shape.{HasSizes}
+use Rattle.ssd_geo.specs.PageWord.{code_in}
+use Rattle.ssd_geo.specs.Shape.{HasSizes, sizes_of}
 use Rattle.ssd_histories.specs.Standing.{HasFields, IsDueBlock, IsStart, names_used}
 use Rattle.ssd_histories.specs.Start.{BlockCells, Start, blank_cells, cells_at}
 use Rattle.ssd_geo.specs.Superblock.{due_pages}
@@ -47,10 +49,10 @@ even_zeros n (variable ∷ variables) = λ i. bit_sum (each_false n variable i) 
 
 -- a drive with these sizes
 abbrev pub SmallLimits : Type 0
-SmallLimits = IsWithinLimits 1 3 4 2 64 3 6 8 8
+SmallLimits = IsWithinLimits small_sizes
 
 abbrev small_shape : SmallLimits → Shape
-small_shape within = record { channels = 1; dies = 3; superblocks = 4; pages = 2; z = 64; mb = 3; nb = 6; bytes = 8; rows = 8; within = within }
+small_shape within = record { words = 1; channels = 1; dies = 3; superblocks = 4; pages = 2; z = 64; mb = 3; nb = 6; bytes = 8; rows = 8; within = within }
 
 abbrev start_of : SmallLimits → ℕ → Start
 start_of within limit = blank_start (small_base (small_shape within)) limit
@@ -95,7 +97,8 @@ small_due within limit die sb low below =
       at_most = omega (arith, count);
       exact = λ good. count ∙ sym none;
       erases = λ good. erased;
-      whole = subst (λ (c : BlockCells). All (λ levels. length levels ≡ 6 * 64) c.pages) (sym cells) (All-nil (λ (levels : List ℤ). length levels ≡ 6 * 64));
+      whole = subst (λ (c : BlockCells). All (λ levels. length levels ≡ page_cells_of small_sizes) c.pages) (sym cells)
+          (All-nil (λ (levels : List ℤ). length levels ≡ page_cells_of small_sizes));
     }
 
 small_is_start : (within : SmallLimits) (limit : ℕ) → 256 ≤ limit → limit ≤ 2 ^ 22 → IsStart (start_of within limit)
@@ -109,7 +112,7 @@ small_is_start within limit low high = record {
   rows_used = All-replicate (λ (row : Row). IsTrue (names_used (small_base (small_shape within)) row)) 8 Row.Empty refl;
   sum_bytes = refl;
   sum_of_none = λ none. refl;
-  sum_codeword = λ i r below lower. even_zeros 384 (variables_of (layer_of (matrix_of (small_base (small_shape within))) i) 64 r);
+  sum_codewords = sum_is;
   fields = small_fields within;
   limit_low = low;
   limit_high = high;
@@ -117,25 +120,47 @@ small_is_start within limit low high = record {
   blocks_due = small_due within limit;
 }
   where
+    sum_is : (f : ℕ) → f < 1 → IsCodeword (matrix_of (small_base (small_shape within))) (code_in small_sizes (replicate 48 0) f)
+    sum_is zero below = λ i r row low. even_zeros 384 (variables_of (layer_of (matrix_of (small_base (small_shape within))) i) 64 r)
+    sum_is (suc f) below = absurd (omega arith)
+
     unnamed : (slot : Slot) (row : ℕ) → IsTrue (names_slot slot (row_at (replicate 8 Row.Empty) row)) → ⊥
     unnamed slot row named =
         let none : names_slot slot (row_at (replicate 8 Row.Empty) row) ≡ false = ap {B = Bool} (names_slot slot) (all_empty 8 row) in
         cc
 
 -- the blank channel of a drive with the small sizes may begin
-abbrev Nine : Type 0
-Nine = ℕ × ℕ × ℕ × ℕ × ℕ × ℕ × ℕ × ℕ × ℕ
+abbrev BeginsWith : ℕ → Sizes → Type 0
+BeginsWith limit sizes =
+    (within : IsWithinLimits sizes) →
+    IsBlankStart (small_base (record {
+      words = sizes.words;
+      channels = sizes.channels;
+      dies = sizes.dies;
+      superblocks = sizes.superblocks;
+      pages = sizes.pages;
+      z = sizes.z;
+      mb = sizes.mb;
+      nb = sizes.nb;
+      bytes = sizes.bytes;
+      rows = sizes.rows;
+      within = within;
+    })) limit
 
-abbrev BeginsWith : ℕ → Nine → Type 0
-BeginsWith limit t =
-    (within : IsWithinLimits t.0 t.1 t.2 t.3 t.4 t.5 t.6 t.7 t.8) →
-    IsBlankStart (small_base (record { channels = t.0; dies = t.1; superblocks = t.2; pages = t.3; z = t.4; mb = t.5; nb = t.6; bytes = t.7; rows = t.8; within = within })) limit
-
-pub small_may_begin : (shape : Shape) (limit : ℕ) → HasSizes shape 1 3 4 2 64 3 6 8 8 → 256 ≤ limit → limit ≤ 2 ^ 22 → IsBlankStart (small_base shape) limit
+pub small_may_begin : (shape : Shape) (limit : ℕ) → HasSizes shape small_sizes → 256 ≤ limit → limit ≤ 2 ^ 22 → IsBlankStart (small_base shape) limit
 small_may_begin shape limit sizes low high =
-    let numbers : Nine = (1, 3, 4, 2, 64, 3, 6, 8, 8) in
-    let own : Nine = (shape.channels, shape.dies, shape.superblocks, shape.pages, shape.z, shape.mb, shape.nb, shape.bytes, shape.rows) in
-    let same : numbers ≡ own =
-    λ i. (sym sizes.channels_are i, sym sizes.dies_are i, sym sizes.superblocks_are i, sym sizes.pages_are i, sym sizes.lifting_is i, sym sizes.base_rows_are i, sym sizes.base_columns_are i, sym sizes.bytes_are i, sym sizes.rows_are i) in
-    let concrete : BeginsWith limit numbers = λ within. record { is_start = small_is_start within limit low high; none_weak = refl } in
+    let same : small_sizes ≡ sizes_of shape =
+    λ i. record {
+      words = sym sizes.words_are i;
+      channels = sym sizes.channels_are i;
+      dies = sym sizes.dies_are i;
+      superblocks = sym sizes.superblocks_are i;
+      pages = sym sizes.pages_are i;
+      z = sym sizes.lifting_is i;
+      mb = sym sizes.base_rows_are i;
+      nb = sym sizes.base_columns_are i;
+      bytes = sym sizes.bytes_are i;
+      rows = sym sizes.rows_are i;
+    } in
+    let concrete : BeginsWith limit small_sizes = λ within. record { is_start = small_is_start within limit low high; none_weak = refl } in
     subst (BeginsWith limit) same concrete shape.within

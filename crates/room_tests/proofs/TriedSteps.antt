@@ -5,6 +5,7 @@ use Rattle.std.proofs.lemmas.Bool.Decides.{nat_tests}
 use Rattle.std.proofs.lemmas.List.Sums.{sum_by-cons}
 use Rattle.ssd_histories.specs.CallSteps.{is_sense_of}
 use Rattle.ssd_histories.specs.Copies.{is_after_recovered, is_after_uncorrectable}
+use Rattle.ssd_histories.specs.HistoryExamples.{small_sizes}
 use Rattle.ssd_histories.specs.Lawful.{has_fault_sense, is_fault_sense_of}
 use Rattle.ssd_histories.specs.SerialCalls.{entry_of}
 use Rattle.ssd_geo.specs.Shape.{HasSizes}
@@ -89,6 +90,7 @@ tried_after old new tag kind tame adds tried = record {
   dies = ap {B = ℕ} (λ (s : Shape). s.dies) adds.same_drive.shape_stays ∙ tried.dies;
   superblocks = ap {B = ℕ} (λ (s : Shape). s.superblocks) adds.same_drive.shape_stays ∙ tried.superblocks;
   pages = ap {B = ℕ} (λ (s : Shape). s.pages) adds.same_drive.shape_stays ∙ tried.pages;
+  words = ap {B = ℕ} (λ (s : Shape). s.words) adds.same_drive.shape_stays ∙ tried.words;
   columns = ap {B = ℕ} (λ (s : Shape). s.nb) adds.same_drive.shape_stays ∙ tried.columns;
   lifting = ap {B = ℕ} (λ (s : Shape). s.z) adds.same_drive.shape_stays ∙ tried.lifting;
   none_ahead = λ at le.
@@ -112,12 +114,13 @@ tried_after old new tag kind tame adds tried = record {
 }
 
 -- a channel that has begun, of the small sizes, is one
-pub tried_first : (shape : Shape) (limit : ℕ) (channel : ChannelState) → HasSizes shape 1 3 4 2 64 3 6 8 8 → HasBegun (small_base shape) limit channel → IsTried channel
+pub tried_first : (shape : Shape) (limit : ℕ) (channel : ChannelState) → HasSizes shape small_sizes → HasBegun (small_base shape) limit channel → IsTried channel
 tried_first shape limit channel sizes begun = record {
   rows = ap {B = ℕ} (λ (s : Shape). s.rows) begun.shape_is ∙ sizes.rows_are;
   dies = ap {B = ℕ} (λ (s : Shape). s.dies) begun.shape_is ∙ sizes.dies_are;
   superblocks = ap {B = ℕ} (λ (s : Shape). s.superblocks) begun.shape_is ∙ sizes.superblocks_are;
   pages = ap {B = ℕ} (λ (s : Shape). s.pages) begun.shape_is ∙ sizes.pages_are;
+  words = ap {B = ℕ} (λ (s : Shape). s.words) begun.shape_is ∙ sizes.words_are;
   columns = ap {B = ℕ} (λ (s : Shape). s.nb) begun.shape_is ∙ sizes.base_columns_are;
   lifting = ap {B = ℕ} (λ (s : Shape). s.z) begun.shape_is ∙ sizes.lifting_is;
   none_ahead = λ at le. ap {B = ℕ} (λ (past : List Entry). senses_had past at) begun.no_entry;

@@ -1,1 +1,2 @@
+pub mod SmallCalls
 pub mod SmallChannel

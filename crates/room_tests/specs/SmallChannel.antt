@@ -35,6 +35,7 @@ pub record IsTried (channel : ChannelState) : Type 0 where
   pub dies : channel.shape.dies ≡ 3
   pub superblocks : channel.shape.superblocks ≡ 4
   pub pages : channel.shape.pages ≡ 2
+  pub words : channel.shape.words ≡ 1
   pub columns : channel.shape.nb ≡ 6
   pub lifting : channel.shape.z ≡ 64
   pub none_ahead : (at : ℕ) → length channel.past ≤ at → senses_made channel at ≡ 0

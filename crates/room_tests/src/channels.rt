@@ -13,6 +13,7 @@ use std::test::Fail;
 
 mod collecting;
 mod moving;
+mod passing;
 
 // Two words, a word of 1s, one of 0s, and the place of slot 1 of superblock 0.
 const FIRST: [u8; 48] = [0x0f; 48];
@@ -70,7 +71,7 @@ fn begun(alloc: Global, limit: u32) -> Result<Channel, Fail>
     requires high { limit ≤ 2 ^ 22 }
     ensures { IfOk result (λ channel. IsTried channel) }
 {
-    let shape = Shape::new(1, 3, 4, 2, 64, 3, 6, 8, 8)?;
+    let shape = Shape::new(1, 1, 3, 4, 2, 64, 3, 6, 8, 8)?;
     let base = blank(alloc, shape)?;
     Ok(Channel::start(alloc, base, limit)?)
 }

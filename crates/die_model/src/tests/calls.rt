@@ -23,7 +23,7 @@ pub(crate) const FAILED_CALL: u8 = 0;
 pub(crate) fn plan_of(alloc: Global) -> Result<DiePlan, Fail>
     ensures { IfOk result (λ p. IsPlan p) }
 {
-    let Ok(shape) = Shape::new(1, 3, 4, 2, 64, 3, 6, 8, 8) else {
+    let Ok(shape) = Shape::new(1, 1, 3, 4, 2, 64, 3, 6, 8, 8) else {
         return Err("no shape".into());
     };
     let law = CellLaw {

@@ -1,9 +1,4 @@
-use Rattle.std.proofs.Common.{◌≡◌, ℕ, ◌+◌, ◌*◌, ◌<◌, ◌≢◌, List, inl, inr, sym, ap, subst, ◌∙◌, arith}
-use Rattle.std.proofs.lemmas.Bool.{cases_lt}
-use Rattle.ssd_geo.specs.BaseMatrix.{BaseMatrix}
-use Rattle.ssd_geo.specs.Codewords.{code_of}
-use Rattle.ssd_geo.specs.Limits.{Sizes, part_bytes_of}
-use Rattle.ssd_geo.specs.PageWord.{code_in, part_in}
+use Rattle.std.proofs.Common.{◌∙◌, arith}
 use Rattle.ssd_geo.specs.Shape.{sizes_of}
 use Rattle.page_head.proofs.PutParts.{part_fits}
 use Rattle.chan_calls.proofs.EncodedPages.{all_encoded, next_encoded}
