@@ -1,3 +1,2 @@
-mod SmallCalls
 mod SmallStart
 mod TriedSteps

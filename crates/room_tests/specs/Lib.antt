@@ -1,2 +1,1 @@
-pub mod SmallCalls
 pub mod SmallChannel

@@ -13,7 +13,6 @@ use std::test::Fail;
 
 mod collecting;
 mod moving;
-mod passing;
 
 // Two words, a word of 1s, one of 0s, and the place of slot 1 of superblock 0.
 const FIRST: [u8; 48] = [0x0f; 48];
