@@ -7,7 +7,7 @@ from .base_matrix import check_matrix
 
 MAGICS = {1: b"SSDIMG01", 2: b"SSDIMG02"}
 # The version of an image with one codeword a page whose description names none.
-DEFAULT_VERSION = 1
+DEFAULT_VERSION = 2
 # How many codewords a page can have.
 WORDS = (1, 2, 4)
 MOST_CELLS = 2 ** 28
