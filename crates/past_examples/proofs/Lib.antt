@@ -1,0 +1,5 @@
+pub mod CountExamples
+pub mod DrainExamples
+pub mod RefreshExamples
+pub mod RefreshTests
+pub mod TakenHints

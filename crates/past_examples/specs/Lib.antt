@@ -1,0 +1,4 @@
+pub mod CountExamples
+pub mod DrainExamples
+pub mod RefreshExamples
+pub mod WorkedRuns
