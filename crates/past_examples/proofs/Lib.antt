@@ -1,5 +1,16 @@
+pub mod CollectedRun
+pub mod CollectExamples
+pub mod Copying
 pub mod CountExamples
+pub mod DrainedRun
 pub mod DrainExamples
+pub mod FailedRun
+pub mod FaultedRun
+pub mod FreedRun
+pub mod IdleRun
 pub mod RefreshExamples
 pub mod RefreshTests
 pub mod TakenHints
+pub mod UnfitRun
+pub mod WholeCalls
+pub mod WornRun

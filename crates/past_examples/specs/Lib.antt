@@ -1,4 +1,7 @@
+pub mod CollectExamples
 pub mod CountExamples
 pub mod DrainExamples
 pub mod RefreshExamples
+pub mod RunExamples
+pub mod ViewExamples
 pub mod WorkedRuns

@@ -4,11 +4,11 @@
 use Rattle.std.specs.Prelude.{ℕ, List, [], ◌∷◌, take}
 use Rattle.ssd_geo.specs.Ladder.{LadderState}
 use Rattle.ssd_histories.specs.CallSteps.{CallStep, steps_of}
-use Rattle.ssd_histories.specs.CallsInOrder.{AreCallsInOrder, ChannelRun, ladder_in}
+use Rattle.ssd_histories.specs.CallsInOrder.{AreCallsInOrder, AreReplies, ChannelRun, ladder_in}
 use Rattle.ssd_histories.specs.History.{past_of}
 use Rattle.ssd_histories.specs.HistoryExamples.{AreWithinLimits, blank_start, tag_of}
 use Rattle.ssd_histories.specs.Lawful.{IsLawful}
-use Rattle.ssd_histories.specs.SerialHistory.{IsSerialRun, SerialState}
+use Rattle.ssd_histories.specs.SerialHistory.{AreServed, SerialState, first_state}
 use Rattle.ssd_histories.specs.Start.{Start}
 use Rattle.ssd_geo.specs.declared.entry.Entry.{Entry}
 use Rattle.ssd_geo.specs.declared.reply.Reply.{Reply}
@@ -60,7 +60,12 @@ abbrev pub IsInOrder : WorkedRun → Type 0
 IsInOrder worked =
     (within : AreWithinLimits) → AreCallsInOrder worked.contents worked.calls (worked.replies ∷ []) (channel_of worked within ∷ [])
 
--- its calls are served one after the other, it is lawful, and it has the replies of its entries
+-- they are served one after the other, and no page waits for a refresh at the end
 abbrev pub IsServedAlone : WorkedRun → Type 0
 IsServedAlone worked =
-    (within : AreWithinLimits) → IsSerialRun worked.contents (start_of worked within ∷ []) worked.calls (worked.replies ∷ []) (state_of (channel_of worked within) [])
+    (within : AreWithinLimits) → AreServed worked.contents (worked.replies ∷ []) 1 worked.calls (first_state (start_of worked within ∷ [])) (state_of (channel_of worked within) [])
+
+-- each reply is that of its call by the call's own entries
+abbrev pub HasReplies : WorkedRun → Type 0
+HasReplies worked =
+    (within : AreWithinLimits) → AreReplies worked.contents worked.calls (worked.replies ∷ []) (channel_of worked within ∷ [])

@@ -1,11 +1,23 @@
-//! Whole calls on worked histories, and what just misses: which steps are a refresh, which calls are drains, and which counts
-//! of faults fit. It has no code that runs: each example is the contract of a function that does nothing.
+//! Whole calls on worked histories, and what just misses: which steps are a refresh, which calls are drains and collects, which
+//! counts of faults fit, and which picks follow a view. It has no code that runs: each example is the contract of a function
+//! that does nothing.
 #![tactic(auto)]
 
+mod collect_examples;
 mod count_examples;
 mod drain_examples;
 mod refresh_examples;
+mod run_examples;
+mod view_examples;
 
+pub use collect_examples::{
+    example_collect_ends, example_collects, example_no_collects, example_notes, noted_histories,
+};
 pub use count_examples::{example_counts, example_no_counts};
 pub use drain_examples::{example_drains, example_no_drains};
 pub use refresh_examples::{example_no_refreshes, example_refreshes, refreshed_histories};
+pub use run_examples::{
+    run_on_a_worn_channel, run_with_a_collect, run_with_a_collection, run_with_a_drain,
+    run_with_a_fault, run_with_a_weak_die, run_with_an_idle_collect, run_with_another_pick,
+};
+pub use view_examples::{followed_policies, unfit_pick};
