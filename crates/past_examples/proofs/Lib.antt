@@ -8,6 +8,7 @@ pub mod FailedRun
 pub mod FaultedRun
 pub mod FreedRun
 pub mod IdleRun
+pub mod MissedRuns
 pub mod RefreshExamples
 pub mod RefreshTests
 pub mod TakenHints

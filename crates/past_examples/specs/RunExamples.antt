@@ -1,16 +1,20 @@
 -- Which whole runs are worked out? Each has the calls of actor 0, their replies and the history that they leave. Where
 -- nothing else is said a write has the number of its call as its data.
-use Rattle.std.specs.Prelude.{ℕ, List, [], ◌∷◌, ◌++◌, map, replicate, false, pos}
-use Rattle.ssd_histories.specs.HistoryExamples.{collected_history, faulted_history, freed_history, idle_history, numbered_contents, page, place, step, tag_of, weak_on_die_0, worn_history}
+use Rattle.std.specs.Prelude.{ℕ, List, [], ◌∷◌, ◌++◌, take, drop, replicate, false, pos}
+use Rattle.ssd_histories.specs.CallsInOrder.{AreCallsInOrder, AreReplies}
+use Rattle.ssd_histories.specs.HistoryExamples.{AreWithinLimits, collected_history, faulted_history, freed_history, idle_history, numbered_contents, page, place, step, tag_of, weak_on_die_0, worn_history}
 use Rattle.ssd_histories.specs.PageMap.{slot_at}
 use Rattle.ssd_geo.specs.declared.entry.Entry.{Entry}
 use Rattle.ssd_geo.specs.declared.kind.Kind.{Kind}
+use Rattle.ssd_geo.specs.declared.reply.RefreshReply.{RefreshReply}
 use Rattle.ssd_geo.specs.declared.reply.Reply.{Reply}
+use Rattle.ssd_geo.specs.declared.row.Row.{Row}
 use Rattle.ssd_geo.specs.declared.trace.Content.{Content}
 use Rattle.ssd_geo.specs.declared.trace.TraceCall.{TraceCall}
 use Rattle.ssd_geo.specs.declared.trace.Verb.{Verb}
+use Rattle.past_examples.specs.RefreshExamples.{drained_history, drained_run}
 use Rattle.past_examples.specs.ViewExamples.{unfit_history}
-use Rattle.past_examples.specs.WorkedRuns.{WorkedRun, call_of}
+use Rattle.past_examples.specs.WorkedRuns.{WorkedRun, call_of, channel_of}
 
 -- a write of a page, with its number as its data
 abbrev pub written : ℕ → ℕ → TraceCall
@@ -109,3 +113,34 @@ failed_run = record {
   replies = Reply.Ok ∷ Reply.Data 0 (1 ∷ 2 ∷ 0 ∷ 0 ∷ 0 ∷ 0 ∷ 0 ∷ 0 ∷ []) ∷ [];
   history = failed_history;
 }
+
+-- The run with a drain, with one thing changed: the first read is said to have found its page at the first level; the last read isn't
+-- among the calls; the last two calls have no reply; and an entry of the first read comes after those of the drain.
+abbrev pub wrong_rung : WorkedRun
+wrong_rung = record drained_run {
+  replies =
+      Reply.Ok
+      ∷ Reply.Ok
+      ∷ Reply.Data 0 (9 ∷ 0 ∷ 0 ∷ 0 ∷ 0 ∷ 0 ∷ 0 ∷ 0 ∷ [])
+      ∷ Reply.Drained ((0, RefreshReply.Moved) ∷ [])
+      ∷ Reply.Data 0 (9 ∷ 0 ∷ 0 ∷ 0 ∷ 0 ∷ 0 ∷ 0 ∷ 0 ∷ [])
+      ∷ [];
+}
+
+abbrev pub unknown_call : WorkedRun
+unknown_call = record drained_run { calls = take 4 drained_run.calls }
+
+abbrev pub two_unanswered : WorkedRun
+two_unanswered = record drained_run { replies = take 3 drained_run.replies }
+
+abbrev pub entry_of_earlier : WorkedRun
+entry_of_earlier = record drained_run { history = take 11 drained_history ++ step 0 2 (Kind.Look 1 Row.Empty false) ∷ drop 11 drained_history }
+
+-- a run doesn't have the replies of its calls, and its calls aren't in order
+abbrev pub LacksReplies : WorkedRun → Type 0
+LacksReplies worked =
+    (within : AreWithinLimits) → AreReplies worked.contents worked.calls (worked.replies ∷ []) (channel_of worked within ∷ []) → ⊥
+
+abbrev pub IsOutOfOrder : WorkedRun → Type 0
+IsOutOfOrder worked =
+    (within : AreWithinLimits) → AreCallsInOrder worked.contents worked.calls (worked.replies ∷ []) (channel_of worked within ∷ []) → ⊥

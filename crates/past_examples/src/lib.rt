@@ -1,6 +1,6 @@
-//! Whole calls on worked histories, and what just misses: which steps are a refresh, which calls are drains and collects, which
-//! counts of faults fit, and which picks follow a view. It has no code that runs: each example is the contract of a function
-//! that does nothing.
+//! Whole runs of one channel and whole calls, worked out, and what just misses: which calls are in order and which replies they
+//! have, which steps are refreshes, drains and collects, which counts of faults fit, and which picks follow a view. It has no
+//! code that runs: each example is the contract of a function that does nothing. It knows no text, no image and no die.
 #![tactic(auto)]
 
 mod collect_examples;
@@ -18,6 +18,6 @@ pub use drain_examples::{example_drains, example_no_drains};
 pub use refresh_examples::{example_no_refreshes, example_refreshes, refreshed_histories};
 pub use run_examples::{
     run_on_a_worn_channel, run_with_a_collect, run_with_a_collection, run_with_a_drain,
-    run_with_a_fault, run_with_a_weak_die, run_with_an_idle_collect, run_with_another_pick,
+    run_with_a_fault, run_with_a_weak_die, run_with_an_idle_collect, run_with_another_pick, runs_that_just_miss,
 };
 pub use view_examples::{followed_policies, unfit_pick};

@@ -1,6 +1,6 @@
 //! Whole runs: that they are lawful, that their calls are in order and served one after the other, and that each has its reply.
 ghost use Rattle.past_examples.specs.RefreshExamples.{drained_run};
-ghost use Rattle.past_examples.specs.RunExamples.{collected_run, failed_run, faulted_run, freed_run, idle_run, unfit_run, worn_run};
+ghost use Rattle.past_examples.specs.RunExamples.{IsOutOfOrder, LacksReplies, collected_run, entry_of_earlier, failed_run, faulted_run, freed_run, idle_run, two_unanswered, unfit_run, unknown_call, worn_run, wrong_rung};
 ghost use Rattle.past_examples.specs.WorkedRuns.{HasReplies, IsInOrder, IsLawfulRun, IsServedAlone};
 
 /// A write that collects the superblock with the most garbage: its steps are a round and the write.
@@ -73,4 +73,13 @@ pub fn run_with_a_weak_die()
     ensures in_order { IsInOrder failed_run }
     ensures served { IsServedAlone failed_run }
     ensures replies { HasReplies failed_run }
+{}
+
+/// What just misses, on the run with a drain: a reply that tells of another rung; an entry of a call that isn't in the trace;
+/// entries of a call after one that wasn't answered; and an entry of an earlier call after those of a later one.
+pub fn runs_that_just_miss()
+    ensures rung { LacksReplies wrong_rung }
+    ensures unknown { IsOutOfOrder unknown_call }
+    ensures unanswered { IsOutOfOrder two_unanswered }
+    ensures earlier { IsOutOfOrder entry_of_earlier }
 {}
