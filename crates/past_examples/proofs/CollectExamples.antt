@@ -1,6 +1,6 @@
--- The worked collects, and why one that ends with a note that isn't idle is none.
-use Rattle.std.proofs.Common.{ℕ, ◌≡◌, Bool, true, false, List, [], ◌∷◌, ◌++◌, take, drop, get_or, refl, sym, ap, subst, ◌∙◌, lit<}
-use Rattle.std.specs.Prelude.{◌||◌, not, Some, None}
+-- The worked collects, and why the others are none.
+use Rattle.std.proofs.Common.{ℕ, ◌≡◌, Bool, true, false, List, [], ◌∷◌, ◌++◌, take, drop, get_or, refl, sym, ap, subst, ◌∙◌, lit<, le→leb}
+use Rattle.std.specs.Prelude.{◌||◌, not, is_none, Some, None, ◌==◌}
 use Rattle.std.proofs.lemmas.Bool.{false≢true}
 use Rattle.ssd_geo.specs.Noise.{noise_word}
 use Rattle.ssd_geo.specs.Ladder.{LadderState}
@@ -13,7 +13,8 @@ use Rattle.ssd_geo.specs.declared.base.ChannelBase.{ChannelBase}
 use Rattle.ssd_geo.specs.declared.entry.Entry.{Entry}
 use Rattle.ssd_geo.specs.declared.kind.Kind.{Kind}
 use Rattle.ssd_geo.specs.declared.tag.Tag.{Tag}
-use Rattle.past_examples.specs.CollectExamples.{IsCollectAfter, IsNoCollectAfter, ends_with_work, ladder_in_history, worn_collect}
+use Rattle.past_examples.specs.CollectExamples.{IsCollectAfter, IsNoCollectAfter, ends_with_work, idle_before_copy, ladder_in_history, worn_collect}
+use Rattle.past_examples.proofs.GrownCollects.{collect_copies}
 
 -- a step of a call in a history
 abbrev step_at : ℕ → List Entry → ℕ → CallStep
@@ -122,3 +123,14 @@ module _ (ladder : List Entry → ℕ → LadderState) (base : ChannelBase) (tag
 pub not_idle_is_none : IsNoCollectAfter [] 5 5 ends_with_work
 not_idle_is_none within collect =
     false≢true (collect_ends_well (ladder_in_history [] within) (small_channel [] within) (tag_of 0 5) collect)
+
+-- the worn channel's victim has two live pages
+pub no_copy_is_none : IsNoCollectAfter weak_on_die_0 28 12 idle_before_copy
+no_copy_is_none within collect =
+    le→leb 31 29
+    (collect_copies (ladder_in_history weak_on_die_0 within) (small_channel weak_on_die_0 within) (tag_of 0 12)
+    (record {
+      no_pick = refl;
+      is_victim = λ none. false≢true (ap is_none none);
+      has_live = λ none. false≢true (ap (λ n. n == 0) none);
+    }) collect)

@@ -16,6 +16,7 @@ use Rattle.ssd_geo.specs.declared.row.Row.{Row}
 use Rattle.ssd_geo.specs.declared.tag.Tag.{Tag}
 use Rattle.past_examples.specs.DrainExamples.{IsDrain, IsDrained, IsNoDrain, empty_rows, failed_refresh, goes_on_after_fault, history_run, newest_first, stops_at_fault, stops_early, takes_both, takes_newest, takes_one}
 use Rattle.past_examples.specs.WorkedRuns.{channel_to, state_of, steps_in}
+use Rattle.past_examples.proofs.Copying.{step_at}
 use Rattle.past_examples.proofs.RefreshTests.{passes, refresh_passes}
 use Rattle.past_examples.proofs.TakenHints.{GoesOn, IsTaken, entries_made, has_drained, steps_follow}
 
@@ -57,10 +58,6 @@ pub one_is_taken : IsDrain takes_one
 one_is_taken within =
     takes {count = 0} {page = 1} {rest = 2 ∷ []} {between = state_of (channel_at empty_rows 1 within) (2 ∷ [])} refl (first_row within) has_taken_all
 
--- a step of the drain with a fault
-abbrev fault_step : ℕ → CallStep
-fault_step i = get_or (steps_in 1 (history_run failed_refresh)) i (record { past = []; entry = step 0 0 (Kind.Trim 0) })
-
 pub fault_stops : IsDrain stops_at_fault
 fault_stops within =
     faults {count = 1} {page = 0} {rest = 1 ∷ []} refl
@@ -73,9 +70,9 @@ fault_stops within =
       is_refresh =
           inr
           (record {
-            look = fault_step 0;
-            ending = fault_step 1 ∷ [];
-            leave = fault_step 2;
+            look = step_at 1 (history_run failed_refresh) 0;
+            ending = step_at 1 (history_run failed_refresh) 1 ∷ [];
+            leave = step_at 1 (history_run failed_refresh) 2;
             is_list = record { senses = []; are_steps = refl; finds_page = refl; are_senses = refl; is_left = refl };
             of_row = refl;
             ends = refl;
@@ -192,10 +189,6 @@ fault_is_last within drain =
     let taken = has_drained [] 1 (tag_of 0 1) drain in
     went_on taken.fault taken taken.is_refreshed taken.goes_on
   where
-    tag : Tag
-    tag = tag_of 0 1
-    last : SerialState
-    last = state_of (channel_at failed_refresh 5 within) []
     ends : (fault : Bool) (left : ℕ) (between : SerialState) → GoesOn [] 1 (tag_of 0 1) fault left [] between (state_of (channel_at failed_refresh 5 within) [])
         → between ≡ state_of (channel_at failed_refresh 5 within) []
     ends true left between goes = goes.1

@@ -7,6 +7,7 @@ pub mod DrainExamples
 pub mod FailedRun
 pub mod FaultedRun
 pub mod FreedRun
+pub mod GrownCollects
 pub mod IdleRun
 pub mod MissedRuns
 pub mod RefreshExamples

@@ -7,11 +7,8 @@ use Rattle.ssd_histories.specs.HistoryExamples.{AreWithinLimits, step}
 use Rattle.ssd_geo.specs.declared.kind.Kind.{Kind}
 use Rattle.past_examples.specs.RefreshExamples.{IsCopyIn, IsNoRefreshIn, IsReadIn, IsRefreshIn, drained_run, lost_run}
 use Rattle.past_examples.specs.WorkedRuns.{WorkedRun, ladder_on, steps_in}
+use Rattle.past_examples.proofs.Copying.{step_at}
 use Rattle.past_examples.proofs.RefreshTests.{refresh_passes}
-
--- a step of a call
-abbrev pub step_at : ℕ → WorkedRun → ℕ → CallStep
-step_at call worked i = get_or (steps_in call worked) i (record { past = []; entry = step 0 0 (Kind.Trim 0) })
 
 pub is_moved : IsRefreshIn drained_run 3 0
 unfolding noise_word

@@ -1,5 +1,5 @@
--- Which notes are idle, and which calls are collects? A collect goes on until a round decides its reply or a note after a round is
--- idle. One that ends with another note just misses.
+-- Which notes are idle, and which calls are collects? A collect goes on until a round decides its reply or a note after a
+-- round is idle. One that ends with another note, and one that leaves a live page without a copy, just miss.
 use Rattle.std.specs.Prelude.{ℕ, ◌≡◌, Bool, get_or, List, [], ◌∷◌, ◌++◌, take, drop, true, Option, Some, None, pos}
 use Rattle.ssd_geo.specs.Coding.{coding_of}
 use Rattle.ssd_geo.specs.Ladder.{LadderState}

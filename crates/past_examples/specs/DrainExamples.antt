@@ -1,5 +1,5 @@
--- Which calls are drains? One goes on until it has as many pages as it asked for, until no page waits, or until a die's call fails.
--- One that goes on after that, one that takes the newest page and one that stops early just miss.
+-- Which calls are drains? One goes on until it has as many pages as it asked for, until no page waits, or until a die's call
+-- fails. One that goes on after that, one that takes the newest page and one that stops early just miss.
 use Rattle.std.specs.Prelude.{ℕ, true, false, List, [], ◌∷◌, pos}
 use Rattle.ssd_histories.specs.HistoryExamples.{AreWithinLimits, page, place, step, tag_of}
 use Rattle.ssd_histories.specs.PageMap.{slot_at}
@@ -9,7 +9,7 @@ use Rattle.ssd_geo.specs.declared.kind.Kind.{Kind}
 use Rattle.ssd_geo.specs.declared.row.Row.{Row}
 use Rattle.past_examples.specs.WorkedRuns.{WorkedRun, channel_to, state_of}
 
--- a drain, the only call here with more than one entry: what a channel's history is before it, and which pages wait
+-- a history as that of a channel without weak blocks
 abbrev pub history_run : List Entry → WorkedRun
 history_run history = record { weak = []; contents = []; calls = []; replies = []; history = history }
 

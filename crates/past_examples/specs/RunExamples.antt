@@ -114,8 +114,8 @@ failed_run = record {
   history = failed_history;
 }
 
--- The run with a drain, with one thing changed: the first read is said to have found its page at the first level; the last read isn't
--- among the calls; the last two calls have no reply; and an entry of the first read comes after those of the drain.
+-- The run with a drain, with one thing changed: the first read is said to have found its page at the first level; the last
+-- read isn't among the calls; the last two calls have no reply; and an entry of the first read comes after those of the drain.
 abbrev pub wrong_rung : WorkedRun
 wrong_rung = record drained_run {
   replies =

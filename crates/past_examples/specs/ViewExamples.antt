@@ -1,5 +1,5 @@
--- Which picks follow the view that a policy tells, and what is told after them? Each pick must be the view's answer as it was moved
--- on before. Where no view is told every pick is free.
+-- Which picks follow the view that a policy tells, and what is told after them? Each pick must be the view's answer as it was
+-- moved on before. Where no view is told every pick is free.
 use Rattle.std.specs.Prelude.{ℕ, ◌≡◌, ◌++◌, List, [], ◌∷◌, take, true, Some, None, pos}
 use Rattle.ssd_histories.specs.FollowedViews.{FollowsTold}
 use Rattle.ssd_histories.specs.History.{past_of}

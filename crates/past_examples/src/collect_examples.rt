@@ -30,9 +30,11 @@ pub fn example_collects()
     ensures stays { IsCollectAfter weak_on_die_0 28 12 worn_collect }
 {}
 
-/// What just misses: a collect that ends with a note that isn't idle.
+/// What just misses: a collect that ends with a note that isn't idle, and one that leaves a live page of its victim without a
+/// copy.
 pub fn example_no_collects()
     ensures not_idle { IsNoCollectAfter [] 5 5 ends_with_work }
+    ensures no_copy { IsNoCollectAfter weak_on_die_0 28 12 idle_before_copy }
 {}
 
 /// An idle note that tells of live pages ends a collect after a page that stayed, and not at once.
