@@ -1,6 +1,6 @@
 -- The worked collects, and why the others are none.
 use Rattle.std.proofs.Common.{ℕ, ◌≡◌, Bool, true, false, List, [], ◌∷◌, ◌++◌, take, drop, get_or, refl, sym, ap, subst, ◌∙◌, lit<, le→leb}
-use Rattle.std.specs.Prelude.{◌||◌, not, is_none, Some, None, ◌==◌}
+use Rattle.std.specs.Prelude.{◌||◌, not, is_none, ◌==◌}
 use Rattle.std.proofs.lemmas.Bool.{false≢true}
 use Rattle.ssd_geo.specs.Noise.{noise_word}
 use Rattle.ssd_geo.specs.Ladder.{LadderState}
@@ -8,7 +8,7 @@ use Rattle.ssd_histories.specs.CallSteps.{CallStep, is_leave_of, position_of, st
 use Rattle.ssd_histories.specs.History.{past_of}
 use Rattle.ssd_histories.specs.HistoryExamples.{AreWithinLimits, freed_history, idle_history, small_channel, step, tag_of, weak_on_die_0}
 use Rattle.ssd_histories.specs.Rounds.{is_idle_note, is_note}
-use Rattle.ssd_histories.specs.SerialCalls.{AreStepsFrom, IsSerialCopy, RoundEnd, SerialCollect, SerialCopies, SerialRound, collects_again, copy_faults, decides, decides_collect, entry_of, erase_faults, erased, erases, finds_none, goes_on, is_idle, picks, retires, stays, takes}
+use Rattle.ssd_histories.specs.SerialCalls.{AreStepsFrom, IsSerialCopy, RoundEnd, SerialCollect, SerialCopies, SerialRound, collects_again, copy_faults, decides, decides_collect, erase_faults, erased, erases, finds_none, goes_on, is_idle, picks, retires, stays, takes}
 use Rattle.ssd_geo.specs.declared.base.ChannelBase.{ChannelBase}
 use Rattle.ssd_geo.specs.declared.entry.Entry.{Entry}
 use Rattle.ssd_geo.specs.declared.kind.Kind.{Kind}

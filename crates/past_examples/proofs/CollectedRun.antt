@@ -1,28 +1,16 @@
 -- A run whose last write collects a superblock.
-use Rattle.std.proofs.Common.{ℕ, ◌≡◌, Bool, true, false, List, [], ◌∷◌, take, drop, get_or, refl, inl, inr, lit<, lit≤}
-use Rattle.std.specs.Prelude.{All, replicate}
-use Rattle.std.proofs.lemmas.List.Elements.{All-from_recursion, All-nil}
+use Rattle.std.proofs.Common.{false, [], ◌∷◌, take, drop, refl, inl, inr, lit<, lit≤}
+use Rattle.std.proofs.lemmas.List.Elements.{All-from_recursion}
 use Rattle.ssd_geo.specs.Noise.{noise_word}
-use Rattle.ssd_geo.specs.Ladder.{LadderState}
-use Rattle.ssd_histories.specs.CallSteps.{CallStep}
-use Rattle.ssd_histories.specs.Copies.{IsCopy, IsRead, IsRefresh}
-use Rattle.ssd_histories.specs.CallsInOrder.{AreRefreshes, IsSomeRefresh}
 use Rattle.ssd_histories.specs.History.{past_of}
-use Rattle.ssd_histories.specs.HistoryExamples.{AreWithinLimits, small_channel, step, tag_of}
-use Rattle.ssd_histories.specs.Rounds.{IsCollect, IsFaultlessRound, IsIdleRound, IsLeftRound, IsRound, IsVictimCopy, IsWrite, IsWritePart}
-use Rattle.ssd_histories.specs.SerialCalls.{IsSerialCopy, decides, erased, erases, finds_none, goes_on, is_idle, is_refused, left, makes_room, picks, stays, takes, writes, writes_again}
-use Rattle.ssd_histories.specs.SerialHistory.{DrainedRefresh, SerialState, finds_none as none_waits, none_left, serves, takes as takes_hint}
-use Rattle.ssd_geo.specs.declared.base.ChannelBase.{ChannelBase}
-use Rattle.ssd_geo.specs.declared.entry.Entry.{Entry}
-use Rattle.ssd_geo.specs.declared.kind.Kind.{Kind}
-use Rattle.ssd_geo.specs.declared.reply.RefreshReply.{RefreshReply}
+use Rattle.ssd_histories.specs.HistoryExamples.{AreWithinLimits, tag_of}
+use Rattle.ssd_histories.specs.Rounds.{IsRound, IsVictimCopy, IsWrite, IsWritePart}
+use Rattle.ssd_histories.specs.SerialCalls.{IsSerialCopy, erased, erases, goes_on, makes_room, picks, writes}
+use Rattle.ssd_histories.specs.SerialHistory.{none_left, serves}
 use Rattle.ssd_geo.specs.declared.reply.Reply.{Reply}
-use Rattle.ssd_geo.specs.declared.trace.Content.{Content}
-use Rattle.ssd_geo.specs.declared.trace.Verb.{Verb}
-use Rattle.past_examples.specs.RefreshExamples.{drained_run}
-use Rattle.past_examples.specs.RunExamples.{collected_run, failed_run, faulted_run, freed_run, idle_run, unfit_run, worn_run, written}
-use Rattle.past_examples.specs.WorkedRuns.{HasReplies, IsInOrder, IsServedAlone, WorkedRun, call_of, channel_of, channel_to, ladder_on, state_of, steps_in}
-use Rattle.past_examples.proofs.Copying.{base_of, copy_from, four_from, serial_from, step_at}
+use Rattle.past_examples.specs.RunExamples.{collected_run, written}
+use Rattle.past_examples.specs.WorkedRuns.{HasReplies, IsInOrder, IsServedAlone, channel_to, ladder_on, state_of, steps_in}
+use Rattle.past_examples.proofs.Copying.{base_of, copy_from, four_from, serial_from}
 use Rattle.past_examples.proofs.WholeCalls.{alone, are_replies, in_order, one_write, replied, whole}
 
 copy_of_3 : (within : AreWithinLimits) → IsVictimCopy (ladder_on collected_run within) (base_of collected_run within) (four_from 12 collected_run 1)
@@ -55,21 +43,46 @@ last_write within = record {
 }
 
 pub calls_in_order : IsInOrder collected_run
-calls_in_order within = in_order collected_run within refl refl
-    (whole collected_run within (written 0 0) (one_write refl refl) tt (lit≤ tt),
-    (whole collected_run within (written 1 1) (one_write refl refl) tt (lit≤ tt),
-    (whole collected_run within (written 2 2) (one_write refl refl) tt (lit≤ tt),
-    (whole collected_run within (written 3 3) (one_write refl refl) tt (lit≤ tt),
-    (whole collected_run within (written 4 4) (one_write refl refl) tt (lit≤ tt),
-    (whole collected_run within (written 5 5) (one_write refl refl) tt (lit≤ tt),
-    (whole collected_run within (written 6 6) (one_write refl refl) tt (lit≤ tt),
-    (whole collected_run within (written 7 7) (one_write refl refl) tt (lit≤ tt),
-    (whole collected_run within (written 8 0) (one_write refl refl) tt (lit≤ tt),
-    (whole collected_run within (written 9 1) (one_write refl refl) tt (lit≤ tt),
-    (whole collected_run within (written 10 2) (one_write refl refl) tt (lit≤ tt),
-    (whole collected_run within (written 11 4) (one_write refl refl) tt (lit≤ tt),
-    (whole collected_run within (written 12 5) (last_write within) tt (lit≤ tt),
-    tt)))))))))))))
+calls_in_order within = in_order collected_run within refl refl (
+  whole collected_run within (written 0 0) (one_write refl refl) tt (lit≤ tt),
+  (
+    whole collected_run within (written 1 1) (one_write refl refl) tt (lit≤ tt),
+    (
+      whole collected_run within (written 2 2) (one_write refl refl) tt (lit≤ tt),
+      (
+        whole collected_run within (written 3 3) (one_write refl refl) tt (lit≤ tt),
+        (
+          whole collected_run within (written 4 4) (one_write refl refl) tt (lit≤ tt),
+          (
+            whole collected_run within (written 5 5) (one_write refl refl) tt (lit≤ tt),
+            (
+              whole collected_run within (written 6 6) (one_write refl refl) tt (lit≤ tt),
+              (
+                whole collected_run within (written 7 7) (one_write refl refl) tt (lit≤ tt),
+                (
+                  whole collected_run within (written 8 0) (one_write refl refl) tt (lit≤ tt),
+                  (
+                    whole collected_run within (written 9 1) (one_write refl refl) tt (lit≤ tt),
+                    (
+                      whole collected_run within (written 10 2) (one_write refl refl) tt (lit≤ tt),
+                      (
+                        whole collected_run within (written 11 4) (one_write refl refl) tt (lit≤ tt),
+                        (
+                          whole collected_run within (written 12 5) (last_write within) tt (lit≤ tt),
+                          tt,
+                        ),
+                      ),
+                    ),
+                  ),
+                ),
+              ),
+            ),
+          ),
+        ),
+      ),
+    ),
+  ),
+)
 
 pub is_served : IsServedAlone collected_run
 is_served within =
@@ -102,18 +115,43 @@ is_served within =
     (none_left)))))))))))))
 
 pub has_replies : HasReplies collected_run
-has_replies within = are_replies collected_run within (lit≤ tt)
-    (replied collected_run within (written 0 0) Reply.Ok refl refl,
-    (replied collected_run within (written 1 1) Reply.Ok refl refl,
-    (replied collected_run within (written 2 2) Reply.Ok refl refl,
-    (replied collected_run within (written 3 3) Reply.Ok refl refl,
-    (replied collected_run within (written 4 4) Reply.Ok refl refl,
-    (replied collected_run within (written 5 5) Reply.Ok refl refl,
-    (replied collected_run within (written 6 6) Reply.Ok refl refl,
-    (replied collected_run within (written 7 7) Reply.Ok refl refl,
-    (replied collected_run within (written 8 0) Reply.Ok refl refl,
-    (replied collected_run within (written 9 1) Reply.Ok refl refl,
-    (replied collected_run within (written 10 2) Reply.Ok refl refl,
-    (replied collected_run within (written 11 4) Reply.Ok refl refl,
-    (replied collected_run within (written 12 5) Reply.Ok refl refl,
-    tt)))))))))))))
+has_replies within = are_replies collected_run within (lit≤ tt) (
+  replied collected_run within (written 0 0) Reply.Ok refl refl,
+  (
+    replied collected_run within (written 1 1) Reply.Ok refl refl,
+    (
+      replied collected_run within (written 2 2) Reply.Ok refl refl,
+      (
+        replied collected_run within (written 3 3) Reply.Ok refl refl,
+        (
+          replied collected_run within (written 4 4) Reply.Ok refl refl,
+          (
+            replied collected_run within (written 5 5) Reply.Ok refl refl,
+            (
+              replied collected_run within (written 6 6) Reply.Ok refl refl,
+              (
+                replied collected_run within (written 7 7) Reply.Ok refl refl,
+                (
+                  replied collected_run within (written 8 0) Reply.Ok refl refl,
+                  (
+                    replied collected_run within (written 9 1) Reply.Ok refl refl,
+                    (
+                      replied collected_run within (written 10 2) Reply.Ok refl refl,
+                      (
+                        replied collected_run within (written 11 4) Reply.Ok refl refl,
+                        (
+                          replied collected_run within (written 12 5) Reply.Ok refl refl,
+                          tt,
+                        ),
+                      ),
+                    ),
+                  ),
+                ),
+              ),
+            ),
+          ),
+        ),
+      ),
+    ),
+  ),
+)

@@ -1,6 +1,5 @@
 -- The copies of a worked run: which entries of a call they are.
-use Rattle.std.proofs.Common.{ℕ, ◌+◌, ◌-◌, ◌≡◌, ◌<◌, Bool, true, false, List, [], ◌∷◌, ◌++◌, take, drop, get_or, refl}
-use Rattle.std.specs.Prelude.{IsTrue}
+use Rattle.std.proofs.Common.{ℕ, ◌+◌, ◌≡◌, ◌<◌, Bool, true, false, List, [], ◌∷◌, ◌++◌, take, drop, get_or}
 use Rattle.std.specs.List.{list_all}
 use Rattle.ssd_histories.specs.CallSteps.{CallStep, is_leave_of, is_look_of_page, is_sense_of, position_of}
 use Rattle.ssd_histories.specs.Copies.{is_copy_end}

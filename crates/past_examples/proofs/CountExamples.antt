@@ -1,7 +1,7 @@
 -- The worked counts of faults.
-use Rattle.std.proofs.Common.{ℕ, ◌≡◌, ◌≤◌, ◌-◌, refl, lit≤, le→leb}
+use Rattle.std.proofs.Common.{◌-◌, lit≤, le→leb}
 use Rattle.ssd_geo.specs.Faults.{greatest_count}
-use Rattle.ssd_histories.specs.HistoryExamples.{AreWithinLimits, faulted_history, worn_history}
+use Rattle.ssd_histories.specs.HistoryExamples.{faulted_history, worn_history}
 use Rattle.past_examples.specs.CountExamples.{AreCounts, AreNoCounts, from_full, from_zero, with_loads}
 
 pub one : AreCounts (from_zero faulted_history 1 1)

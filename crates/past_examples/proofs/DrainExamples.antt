@@ -1,20 +1,20 @@
 -- The worked drains: those that are one call by call, and why the others are none.
-use Rattle.std.proofs.Common.{ℕ, zero, suc, ◌≡◌, ◌/◌, ◌%◌, ◌==◌, Bool, true, false, List, [], ◌∷◌, ◌++◌, map, reverse, take, drop, get_or, Some, None, refl, sym, ap, subst, ◌∙◌, inl, inr}
-use Rattle.std.specs.Prelude.{◌⊎◌, Option, pred, slice_get, unwrap_or}
+use Rattle.std.proofs.Common.{ℕ, suc, ◌≡◌, ◌/◌, ◌%◌, ◌==◌, Bool, true, false, List, [], ◌∷◌, ◌++◌, map, reverse, take, drop, get_or, Some, refl, sym, ap, subst, ◌∙◌, inl, inr}
+use Rattle.std.specs.Prelude.{◌⊎◌, Option, slice_get, unwrap_or}
 use Rattle.std.proofs.lemmas.Bool.{false≢true}
 use Rattle.ssd_histories.specs.CallSteps.{CallStep}
 use Rattle.ssd_histories.specs.CallsInOrder.{ChannelRun, ladder_in}
 use Rattle.ssd_histories.specs.Copies.{IsRefresh}
 use Rattle.ssd_histories.specs.History.{past_of}
-use Rattle.ssd_histories.specs.HistoryExamples.{AreWithinLimits, page, place, step, tag_of}
+use Rattle.ssd_histories.specs.HistoryExamples.{AreWithinLimits, page, step, tag_of}
 use Rattle.ssd_histories.specs.Rounds.{has_fault}
 use Rattle.ssd_histories.specs.SerialCalls.{AreStepsFrom}
-use Rattle.ssd_histories.specs.SerialHistory.{DrainedRefresh, SerialDrain, SerialState, faults, finds_none, has_taken_all, takes, with_past, without_hint}
+use Rattle.ssd_histories.specs.SerialHistory.{DrainedRefresh, SerialState, faults, finds_none, has_taken_all, takes, with_past, without_hint}
 use Rattle.ssd_geo.specs.declared.entry.Entry.{Entry}
 use Rattle.ssd_geo.specs.declared.kind.Kind.{Kind}
 use Rattle.ssd_geo.specs.declared.row.Row.{Row}
 use Rattle.ssd_geo.specs.declared.tag.Tag.{Tag}
-use Rattle.past_examples.specs.DrainExamples.{IsDrain, IsDrained, IsNoDrain, empty_rows, failed_refresh, goes_on_after_fault, history_run, newest_first, stops_at_fault, stops_early, takes_both, takes_newest, takes_one}
+use Rattle.past_examples.specs.DrainExamples.{IsDrain, IsNoDrain, empty_rows, failed_refresh, goes_on_after_fault, history_run, stops_at_fault, stops_early, takes_both, takes_newest, takes_one}
 use Rattle.past_examples.specs.WorkedRuns.{channel_to, state_of, steps_in}
 use Rattle.past_examples.proofs.Copying.{step_at}
 use Rattle.past_examples.proofs.RefreshTests.{passes, refresh_passes}
@@ -155,12 +155,12 @@ early_is_none within drain =
     stopped false taken refreshed goes =
         let alone = refreshed_alone (tag_of 0 0) 1 (channel_at empty_rows 0 within) taken.rest taken.between false refl refreshed in
         waiting (has_drained [] 1 (tag_of 0 0) goes).1
-        where
-          waiting : (taken.left ≡ 0) ⊎ (taken.between.hints ≡ []) → ⊥
-          waiting (inl none) = false≢true (ap (λ (n : ℕ). n == 2) (ap suc (sym none) ∙ sym taken.count_is))
-          waiting (inr none) =
-              let rest : taken.rest ≡ [] = sym (ap (λ (state : SerialState). state.hints) (refreshed_alone (tag_of 0 0) 1 (channel_at empty_rows 0 within) taken.rest taken.between false refl refreshed).after_is) ∙ none in
-              false≢true (ap has_some (sym (ap (drop 1) taken.hints_are ∙ rest)))
+      where
+        waiting : (taken.left ≡ 0) ⊎ (taken.between.hints ≡ []) → ⊥
+        waiting (inl none) = false≢true (ap (λ (n : ℕ). n == 2) (ap suc (sym none) ∙ sym taken.count_is))
+        waiting (inr none) =
+            let rest : taken.rest ≡ [] = sym (ap (λ (state : SerialState). state.hints) (refreshed_alone (tag_of 0 0) 1 (channel_at empty_rows 0 within) taken.rest taken.between false refl refreshed).after_is) ∙ none in
+            false≢true (ap has_some (sym (ap (drop 1) taken.hints_are ∙ rest)))
 
 -- the steps of a refresh of row 0 without a fault don't begin with a look of a page and a failed sense
 abbrev fault_entry : ℕ → Entry
@@ -193,6 +193,7 @@ fault_is_last within drain =
         → between ≡ state_of (channel_at failed_refresh 5 within) []
     ends true left between goes = goes.1
     ends false left between goes = (has_drained [] 1 (tag_of 0 1) goes).0
+
     went_on : (fault : Bool) → (taken : IsTaken [] 1 (tag_of 0 1) 2 0 (1 ∷ []) (state_of (channel_at failed_refresh 1 within) (0 ∷ 1 ∷ [])) (state_of (channel_at failed_refresh 5 within) []))
         → DrainedRefresh [] 1 (tag_of 0 1) 0 (state_of (channel_at failed_refresh 1 within) taken.rest) taken.between fault
         → GoesOn [] 1 (tag_of 0 1) fault taken.left (1 ∷ []) taken.between (state_of (channel_at failed_refresh 5 within) []) → ⊥
@@ -201,7 +202,6 @@ fault_is_last within drain =
         let first = refreshed_alone (tag_of 0 1) 0 (channel_at failed_refresh 1 within) taken.rest taken.between false refl refreshed in
         let again = has_drained [] 1 (tag_of 0 1) goes in
         let channel : ChannelRun = record { start = (channel_at failed_refresh 1 within).start; past = first.past } in
-        let hints : taken.rest ≡ 1 ∷ again.rest = sym (ap (λ (state : SerialState). state.hints) first.after_is) ∙ again.hints_are in
         let moved : DrainedRefresh [] 1 (tag_of 0 1) 1 (state_of channel again.rest) again.between again.fault =
         subst (λ (state : SerialState). DrainedRefresh [] 1 (tag_of 0 1) 1 (without_hint again.rest state) again.between again.fault) first.after_is again.is_refreshed in
         let second = refreshed_alone (tag_of 0 1) 1 channel again.rest again.between again.fault refl moved in

@@ -1,58 +1,50 @@
 -- A run in which a page is read at the second level, and moved by a drain.
-use Rattle.std.proofs.Common.{ℕ, ◌≡◌, Bool, true, false, List, [], ◌∷◌, take, drop, get_or, refl, inl, inr, lit<, lit≤}
-use Rattle.std.specs.Prelude.{All, replicate}
-use Rattle.std.proofs.lemmas.List.Elements.{All-from_recursion, All-nil}
+use Rattle.std.proofs.Common.{◌≡◌, false, [], ◌∷◌, take, drop, refl, inr, lit≤}
+use Rattle.std.proofs.lemmas.List.Elements.{All-from_recursion}
 use Rattle.ssd_geo.specs.Noise.{noise_word}
-use Rattle.ssd_geo.specs.Ladder.{LadderState}
-use Rattle.ssd_histories.specs.CallSteps.{CallStep}
-use Rattle.ssd_histories.specs.Copies.{IsCopy, IsRead, IsRefresh}
-use Rattle.ssd_histories.specs.CallsInOrder.{AreRefreshes, IsSomeRefresh, ladder_in, steps_on}
+use Rattle.ssd_histories.specs.Copies.{IsRead, IsRefresh}
+use Rattle.ssd_histories.specs.CallsInOrder.{IsSomeRefresh, ladder_in, steps_on}
 use Rattle.ssd_histories.specs.Replies.{decided_pages, drained_on, pages_on}
 use Rattle.std.specs.List.{enumerate_from}
 use Rattle.past_examples.proofs.RefreshExamples.{is_moved}
 use Rattle.ssd_histories.specs.History.{past_of}
-use Rattle.ssd_histories.specs.HistoryExamples.{AreWithinLimits, small_channel, step, tag_of}
-use Rattle.ssd_histories.specs.Rounds.{IsCollect, IsFaultlessRound, IsIdleRound, IsLeftRound, IsRound, IsVictimCopy, IsWrite, IsWritePart}
-use Rattle.ssd_histories.specs.SerialCalls.{IsSerialCopy, decides, erased, erases, finds_none, goes_on, is_idle, is_refused, left, makes_room, picks, stays, takes, writes, writes_again}
-use Rattle.ssd_histories.specs.SerialHistory.{DrainedRefresh, SerialState, finds_none as none_waits, none_left, serves, takes as takes_hint}
-use Rattle.ssd_geo.specs.declared.base.ChannelBase.{ChannelBase}
-use Rattle.ssd_geo.specs.declared.entry.Entry.{Entry}
-use Rattle.ssd_geo.specs.declared.kind.Kind.{Kind}
+use Rattle.ssd_histories.specs.HistoryExamples.{AreWithinLimits, tag_of}
+use Rattle.ssd_histories.specs.SerialCalls.{writes}
+use Rattle.ssd_histories.specs.SerialHistory.{DrainedRefresh, finds_none as none_waits, none_left, serves, takes as takes_hint}
 use Rattle.ssd_geo.specs.declared.reply.RefreshReply.{RefreshReply}
 use Rattle.ssd_geo.specs.declared.reply.Reply.{Reply}
 use Rattle.ssd_geo.specs.declared.trace.Content.{Content}
 use Rattle.ssd_geo.specs.declared.trace.Verb.{Verb}
 use Rattle.past_examples.specs.RefreshExamples.{drained_run}
-use Rattle.past_examples.specs.RunExamples.{collected_run, failed_run, faulted_run, freed_run, idle_run, unfit_run, worn_run, written}
-use Rattle.past_examples.specs.WorkedRuns.{HasReplies, IsInOrder, IsServedAlone, WorkedRun, call_of, channel_of, channel_to, ladder_on, state_of, steps_in}
-use Rattle.past_examples.proofs.Copying.{base_of, copy_from, four_from, serial_from, step_at}
+use Rattle.past_examples.specs.WorkedRuns.{HasReplies, IsInOrder, IsServedAlone, call_of, channel_of, channel_to, ladder_on, state_of, steps_in}
+use Rattle.past_examples.proofs.Copying.{step_at}
 use Rattle.past_examples.proofs.WholeCalls.{alone, are_replies, in_order, one_write, replied, whole}
 
 aged_read : (within : AreWithinLimits) → IsRead (ladder_on drained_run within) 0 (steps_in 2 drained_run)
 unfolding noise_word
 aged_read within =
-  inr
-  (record {
-    look = step_at 2 drained_run 0;
-    ending = [];
-    leave = step_at 2 drained_run 3;
-    is_list = record { senses = take 2 (drop 1 (steps_in 2 drained_run)); are_steps = refl; finds_page = refl; are_senses = refl; is_left = refl };
-    of_row = refl;
-    ends = refl;
-  })
+    inr
+    (record {
+      look = step_at 2 drained_run 0;
+      ending = [];
+      leave = step_at 2 drained_run 3;
+      is_list = record { senses = take 2 (drop 1 (steps_in 2 drained_run)); are_steps = refl; finds_page = refl; are_senses = refl; is_left = refl };
+      of_row = refl;
+      ends = refl;
+    })
 
 new_read : (within : AreWithinLimits) → IsRead (ladder_on drained_run within) 0 (steps_in 4 drained_run)
 unfolding noise_word
 new_read within =
-  inr
-  (record {
-    look = step_at 4 drained_run 0;
-    ending = [];
-    leave = step_at 4 drained_run 2;
-    is_list = record { senses = take 1 (drop 1 (steps_in 4 drained_run)); are_steps = refl; finds_page = refl; are_senses = refl; is_left = refl };
-    of_row = refl;
-    ends = refl;
-  })
+    inr
+    (record {
+      look = step_at 4 drained_run 0;
+      ending = [];
+      leave = step_at 4 drained_run 2;
+      is_list = record { senses = take 1 (drop 1 (steps_in 4 drained_run)); are_steps = refl; finds_page = refl; are_senses = refl; is_left = refl };
+      of_row = refl;
+      ends = refl;
+    })
 
 the_refresh : (within : AreWithinLimits) → IsRefresh (ladder_on drained_run within) 0 (steps_in 3 drained_run)
 the_refresh within = is_moved within
@@ -70,19 +62,28 @@ drained within = record {
 }
 
 pub calls_in_order : IsInOrder drained_run
-calls_in_order within = in_order drained_run within refl refl
-    (whole drained_run within (call_of 0 (Verb.Write 0 (Content.Listed (9 ∷ [])))) (one_write refl refl) tt (lit≤ tt),
-    (whole drained_run within (call_of 1 (Verb.Age 0 1 0 150)) refl tt (lit≤ tt),
-    (whole drained_run within (call_of 2 (Verb.Read 0)) (aged_read within) tt (lit≤ tt),
-    (whole drained_run within (call_of 3 (Verb.Drain 4))
-    (record {
-      refreshes = steps_in 3 drained_run ∷ [];
-      are_steps = refl;
-      each = All-from_recursion (IsSomeRefresh (ladder_on drained_run within)) (steps_in 3 drained_run ∷ []) (record { row = 0; is_refresh = the_refresh within }, tt);
-      faultless = refl;
-    }) (lit≤ tt) (lit≤ tt),
-    (whole drained_run within (call_of 4 (Verb.Read 0)) (new_read within) tt (lit≤ tt),
-    tt)))))
+calls_in_order within = in_order drained_run within refl refl (
+  whole drained_run within (call_of 0 (Verb.Write 0 (Content.Listed (9 ∷ [])))) (one_write refl refl) tt (lit≤ tt),
+  (
+    whole drained_run within (call_of 1 (Verb.Age 0 1 0 150)) refl tt (lit≤ tt),
+    (
+      whole drained_run within (call_of 2 (Verb.Read 0)) (aged_read within) tt (lit≤ tt),
+      (
+        whole drained_run within (call_of 3 (Verb.Drain 4))
+            (record {
+              refreshes = steps_in 3 drained_run ∷ [];
+              are_steps = refl;
+              each = All-from_recursion (IsSomeRefresh (ladder_on drained_run within)) (steps_in 3 drained_run ∷ []) (record { row = 0; is_refresh = the_refresh within }, tt);
+              faultless = refl;
+            }) (lit≤ tt) (lit≤ tt),
+        (
+          whole drained_run within (call_of 4 (Verb.Read 0)) (new_read within) tt (lit≤ tt),
+          tt,
+        ),
+      ),
+    ),
+  ),
+)
 
 pub is_served : IsServedAlone drained_run
 unfolding noise_word
@@ -101,11 +102,20 @@ is_served within =
 
 pub has_replies : HasReplies drained_run
 unfolding noise_word
-has_replies within = are_replies drained_run within (lit≤ tt)
-    (replied drained_run within (call_of 0 (Verb.Write 0 (Content.Listed (9 ∷ [])))) Reply.Ok refl refl,
-    (replied drained_run within (call_of 1 (Verb.Age 0 1 0 150)) Reply.Ok refl refl,
-    (replied drained_run within (call_of 2 (Verb.Read 0)) (Reply.Data 1 (9 ∷ 0 ∷ 0 ∷ 0 ∷ 0 ∷ 0 ∷ 0 ∷ 0 ∷ [])) refl refl,
-    (replied drained_run within (call_of 3 (Verb.Drain 4)) (Reply.Drained ((0, RefreshReply.Moved) ∷ [])) refl
-    (All-from_recursion (λ item. drained_on (ladder_in drained_run.contents item.1) 1 item.0 (steps_on (tag_of 0 3) item.1) ≡ decided_pages (pages_on 1 item.0 ((0, RefreshReply.Moved) ∷ []))) (enumerate_from 0 (channel_of drained_run within ∷ [])) (refl, tt), refl),
-    (replied drained_run within (call_of 4 (Verb.Read 0)) (Reply.Data 0 (9 ∷ 0 ∷ 0 ∷ 0 ∷ 0 ∷ 0 ∷ 0 ∷ 0 ∷ [])) refl refl,
-    tt)))))
+has_replies within = are_replies drained_run within (lit≤ tt) (
+  replied drained_run within (call_of 0 (Verb.Write 0 (Content.Listed (9 ∷ [])))) Reply.Ok refl refl,
+  (
+    replied drained_run within (call_of 1 (Verb.Age 0 1 0 150)) Reply.Ok refl refl,
+    (
+      replied drained_run within (call_of 2 (Verb.Read 0)) (Reply.Data 1 (9 ∷ 0 ∷ 0 ∷ 0 ∷ 0 ∷ 0 ∷ 0 ∷ 0 ∷ [])) refl refl,
+      (
+        replied drained_run within (call_of 3 (Verb.Drain 4)) (Reply.Drained ((0, RefreshReply.Moved) ∷ [])) refl
+            (All-from_recursion (λ item. drained_on (ladder_in drained_run.contents item.1) 1 item.0 (steps_on (tag_of 0 3) item.1) ≡ decided_pages (pages_on 1 item.0 ((0, RefreshReply.Moved) ∷ []))) (enumerate_from 0 (channel_of drained_run within ∷ [])) (refl, tt), refl),
+        (
+          replied drained_run within (call_of 4 (Verb.Read 0)) (Reply.Data 0 (9 ∷ 0 ∷ 0 ∷ 0 ∷ 0 ∷ 0 ∷ 0 ∷ 0 ∷ [])) refl refl,
+          tt,
+        ),
+      ),
+    ),
+  ),
+)

@@ -1,42 +1,32 @@
 -- A write whose first program answers FAIL, and a read.
-use Rattle.std.proofs.Common.{ℕ, ◌≡◌, Bool, true, false, List, [], ◌∷◌, take, drop, get_or, refl, inl, inr, lit<, lit≤}
-use Rattle.std.specs.Prelude.{All, replicate}
-use Rattle.std.proofs.lemmas.List.Elements.{All-from_recursion, All-nil}
+use Rattle.std.proofs.Common.{[], ◌∷◌, take, drop, refl, inl, inr, lit≤}
+use Rattle.std.proofs.lemmas.List.Elements.{All-from_recursion}
 use Rattle.ssd_geo.specs.Noise.{noise_word}
-use Rattle.ssd_geo.specs.Ladder.{LadderState}
-use Rattle.ssd_histories.specs.CallSteps.{CallStep}
-use Rattle.ssd_histories.specs.Copies.{IsCopy, IsRead, IsRefresh}
-use Rattle.ssd_histories.specs.CallsInOrder.{AreRefreshes, IsSomeRefresh}
-use Rattle.ssd_histories.specs.History.{past_of}
-use Rattle.ssd_histories.specs.HistoryExamples.{AreWithinLimits, small_channel, step, tag_of}
-use Rattle.ssd_histories.specs.Rounds.{IsCollect, IsFaultlessRound, IsIdleRound, IsLeftRound, IsRound, IsVictimCopy, IsWrite, IsWritePart}
-use Rattle.ssd_histories.specs.SerialCalls.{IsSerialCopy, decides, erased, erases, finds_none, goes_on, is_idle, is_refused, left, makes_room, picks, stays, takes, writes, writes_again}
-use Rattle.ssd_histories.specs.SerialHistory.{DrainedRefresh, SerialState, finds_none as none_waits, none_left, serves, takes as takes_hint}
-use Rattle.ssd_geo.specs.declared.base.ChannelBase.{ChannelBase}
-use Rattle.ssd_geo.specs.declared.entry.Entry.{Entry}
-use Rattle.ssd_geo.specs.declared.kind.Kind.{Kind}
-use Rattle.ssd_geo.specs.declared.reply.RefreshReply.{RefreshReply}
+use Rattle.ssd_histories.specs.Copies.{IsRead}
+use Rattle.ssd_histories.specs.HistoryExamples.{AreWithinLimits}
+use Rattle.ssd_histories.specs.Rounds.{IsWrite, IsWritePart}
+use Rattle.ssd_histories.specs.SerialCalls.{writes, writes_again}
+use Rattle.ssd_histories.specs.SerialHistory.{none_left, serves}
 use Rattle.ssd_geo.specs.declared.reply.Reply.{Reply}
 use Rattle.ssd_geo.specs.declared.trace.Content.{Content}
 use Rattle.ssd_geo.specs.declared.trace.Verb.{Verb}
-use Rattle.past_examples.specs.RefreshExamples.{drained_run}
-use Rattle.past_examples.specs.RunExamples.{collected_run, failed_run, faulted_run, freed_run, idle_run, unfit_run, worn_run, written}
-use Rattle.past_examples.specs.WorkedRuns.{HasReplies, IsInOrder, IsServedAlone, WorkedRun, call_of, channel_of, channel_to, ladder_on, state_of, steps_in}
-use Rattle.past_examples.proofs.Copying.{base_of, copy_from, four_from, serial_from, step_at}
-use Rattle.past_examples.proofs.WholeCalls.{alone, are_replies, in_order, one_write, replied, whole}
+use Rattle.past_examples.specs.RunExamples.{failed_run}
+use Rattle.past_examples.specs.WorkedRuns.{HasReplies, IsInOrder, IsServedAlone, call_of, channel_to, ladder_on, state_of, steps_in}
+use Rattle.past_examples.proofs.Copying.{base_of, step_at}
+use Rattle.past_examples.proofs.WholeCalls.{alone, are_replies, in_order, replied, whole}
 
 the_read : (within : AreWithinLimits) → IsRead (ladder_on failed_run within) 5 (steps_in 1 failed_run)
 unfolding noise_word
 the_read within =
-  inr
-  (record {
-    look = step_at 1 failed_run 0;
-    ending = [];
-    leave = step_at 1 failed_run 2;
-    is_list = record { senses = take 1 (drop 1 (steps_in 1 failed_run)); are_steps = refl; finds_page = refl; are_senses = refl; is_left = refl };
-    of_row = refl;
-    ends = refl;
-  })
+    inr
+    (record {
+      look = step_at 1 failed_run 0;
+      ending = [];
+      leave = step_at 1 failed_run 2;
+      is_list = record { senses = take 1 (drop 1 (steps_in 1 failed_run)); are_steps = refl; finds_page = refl; are_senses = refl; is_left = refl };
+      of_row = refl;
+      ends = refl;
+    })
 
 the_write : (within : AreWithinLimits) → IsWrite (ladder_on failed_run within) (base_of failed_run within) 5 (steps_in 0 failed_run)
 the_write within = record {
@@ -49,10 +39,13 @@ the_write within = record {
 }
 
 pub calls_in_order : IsInOrder failed_run
-calls_in_order within = in_order failed_run within refl refl
-    (whole failed_run within (call_of 0 (Verb.Write 5 (Content.Listed (1 ∷ 2 ∷ [])))) (the_write within) tt (lit≤ tt),
-    (whole failed_run within (call_of 1 (Verb.Read 5)) (the_read within) tt (lit≤ tt),
-    tt))
+calls_in_order within = in_order failed_run within refl refl (
+  whole failed_run within (call_of 0 (Verb.Write 5 (Content.Listed (1 ∷ 2 ∷ [])))) (the_write within) tt (lit≤ tt),
+  (
+    whole failed_run within (call_of 1 (Verb.Read 5)) (the_read within) tt (lit≤ tt),
+    tt,
+  ),
+)
 
 pub is_served : IsServedAlone failed_run
 unfolding noise_word
@@ -65,7 +58,10 @@ is_served within =
 
 pub has_replies : HasReplies failed_run
 unfolding noise_word
-has_replies within = are_replies failed_run within (lit≤ tt)
-    (replied failed_run within (call_of 0 (Verb.Write 5 (Content.Listed (1 ∷ 2 ∷ [])))) Reply.Ok refl refl,
-    (replied failed_run within (call_of 1 (Verb.Read 5)) (Reply.Data 0 (1 ∷ 2 ∷ 0 ∷ 0 ∷ 0 ∷ 0 ∷ 0 ∷ 0 ∷ [])) refl refl,
-    tt))
+has_replies within = are_replies failed_run within (lit≤ tt) (
+  replied failed_run within (call_of 0 (Verb.Write 5 (Content.Listed (1 ∷ 2 ∷ [])))) Reply.Ok refl refl,
+  (
+    replied failed_run within (call_of 1 (Verb.Read 5)) (Reply.Data 0 (1 ∷ 2 ∷ 0 ∷ 0 ∷ 0 ∷ 0 ∷ 0 ∷ 0 ∷ [])) refl refl,
+    tt,
+  ),
+)

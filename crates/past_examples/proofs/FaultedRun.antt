@@ -1,62 +1,55 @@
 -- Two reads, of which a die fails in the first.
-use Rattle.std.proofs.Common.{ℕ, ◌≡◌, Bool, true, false, List, [], ◌∷◌, take, drop, get_or, refl, inl, inr, lit<, lit≤}
-use Rattle.std.specs.Prelude.{All, replicate}
-use Rattle.std.proofs.lemmas.List.Elements.{All-from_recursion, All-nil}
+use Rattle.std.proofs.Common.{[], ◌∷◌, take, drop, refl, inr, lit≤}
 use Rattle.ssd_geo.specs.Noise.{noise_word}
-use Rattle.ssd_geo.specs.Ladder.{LadderState}
-use Rattle.ssd_histories.specs.CallSteps.{CallStep}
-use Rattle.ssd_histories.specs.Copies.{IsCopy, IsRead, IsRefresh}
-use Rattle.ssd_histories.specs.CallsInOrder.{AreRefreshes, IsSomeRefresh}
-use Rattle.ssd_histories.specs.History.{past_of}
-use Rattle.ssd_histories.specs.HistoryExamples.{AreWithinLimits, small_channel, step, tag_of}
-use Rattle.ssd_histories.specs.Rounds.{IsCollect, IsFaultlessRound, IsIdleRound, IsLeftRound, IsRound, IsVictimCopy, IsWrite, IsWritePart}
-use Rattle.ssd_histories.specs.SerialCalls.{IsSerialCopy, decides, erased, erases, finds_none, goes_on, is_idle, is_refused, left, makes_room, picks, stays, takes, writes, writes_again}
-use Rattle.ssd_histories.specs.SerialHistory.{DrainedRefresh, SerialState, finds_none as none_waits, none_left, serves, takes as takes_hint}
-use Rattle.ssd_geo.specs.declared.base.ChannelBase.{ChannelBase}
-use Rattle.ssd_geo.specs.declared.entry.Entry.{Entry}
-use Rattle.ssd_geo.specs.declared.kind.Kind.{Kind}
-use Rattle.ssd_geo.specs.declared.reply.RefreshReply.{RefreshReply}
+use Rattle.ssd_histories.specs.Copies.{IsRead}
+use Rattle.ssd_histories.specs.HistoryExamples.{AreWithinLimits}
+use Rattle.ssd_histories.specs.SerialCalls.{writes}
+use Rattle.ssd_histories.specs.SerialHistory.{none_left, serves}
 use Rattle.ssd_geo.specs.declared.reply.Reply.{Reply}
 use Rattle.ssd_geo.specs.declared.trace.Content.{Content}
 use Rattle.ssd_geo.specs.declared.trace.Verb.{Verb}
-use Rattle.past_examples.specs.RefreshExamples.{drained_run}
-use Rattle.past_examples.specs.RunExamples.{collected_run, failed_run, faulted_run, freed_run, idle_run, unfit_run, worn_run, written}
-use Rattle.past_examples.specs.WorkedRuns.{HasReplies, IsInOrder, IsServedAlone, WorkedRun, call_of, channel_of, channel_to, ladder_on, state_of, steps_in}
-use Rattle.past_examples.proofs.Copying.{base_of, copy_from, four_from, serial_from, step_at}
+use Rattle.past_examples.specs.RunExamples.{faulted_run}
+use Rattle.past_examples.specs.WorkedRuns.{HasReplies, IsInOrder, IsServedAlone, call_of, channel_to, ladder_on, state_of, steps_in}
+use Rattle.past_examples.proofs.Copying.{step_at}
 use Rattle.past_examples.proofs.WholeCalls.{alone, are_replies, in_order, one_write, replied, whole}
 
 failed_read : (within : AreWithinLimits) → IsRead (ladder_on faulted_run within) 0 (steps_in 1 faulted_run)
 unfolding noise_word
 failed_read within =
-  inr
-  (record {
-    look = step_at 1 faulted_run 0;
-    ending = step_at 1 faulted_run 1 ∷ [];
-    leave = step_at 1 faulted_run 2;
-    is_list = record { senses = take 0 (drop 1 (steps_in 1 faulted_run)); are_steps = refl; finds_page = refl; are_senses = refl; is_left = refl };
-    of_row = refl;
-    ends = refl;
-  })
+    inr
+    (record {
+      look = step_at 1 faulted_run 0;
+      ending = step_at 1 faulted_run 1 ∷ [];
+      leave = step_at 1 faulted_run 2;
+      is_list = record { senses = take 0 (drop 1 (steps_in 1 faulted_run)); are_steps = refl; finds_page = refl; are_senses = refl; is_left = refl };
+      of_row = refl;
+      ends = refl;
+    })
 
 good_read : (within : AreWithinLimits) → IsRead (ladder_on faulted_run within) 0 (steps_in 2 faulted_run)
 unfolding noise_word
 good_read within =
-  inr
-  (record {
-    look = step_at 2 faulted_run 0;
-    ending = [];
-    leave = step_at 2 faulted_run 2;
-    is_list = record { senses = take 1 (drop 1 (steps_in 2 faulted_run)); are_steps = refl; finds_page = refl; are_senses = refl; is_left = refl };
-    of_row = refl;
-    ends = refl;
-  })
+    inr
+    (record {
+      look = step_at 2 faulted_run 0;
+      ending = [];
+      leave = step_at 2 faulted_run 2;
+      is_list = record { senses = take 1 (drop 1 (steps_in 2 faulted_run)); are_steps = refl; finds_page = refl; are_senses = refl; is_left = refl };
+      of_row = refl;
+      ends = refl;
+    })
 
 pub calls_in_order : IsInOrder faulted_run
-calls_in_order within = in_order faulted_run within refl refl
-    (whole faulted_run within (call_of 0 (Verb.Write 0 (Content.Listed (5 ∷ [])))) (one_write refl refl) tt (lit≤ tt),
-    (whole faulted_run within (call_of 1 (Verb.Read 0)) (failed_read within) tt (lit≤ tt),
-    (whole faulted_run within (call_of 2 (Verb.Read 0)) (good_read within) tt (lit≤ tt),
-    tt)))
+calls_in_order within = in_order faulted_run within refl refl (
+  whole faulted_run within (call_of 0 (Verb.Write 0 (Content.Listed (5 ∷ [])))) (one_write refl refl) tt (lit≤ tt),
+  (
+    whole faulted_run within (call_of 1 (Verb.Read 0)) (failed_read within) tt (lit≤ tt),
+    (
+      whole faulted_run within (call_of 2 (Verb.Read 0)) (good_read within) tt (lit≤ tt),
+      tt,
+    ),
+  ),
+)
 
 pub is_served : IsServedAlone faulted_run
 unfolding noise_word
@@ -71,8 +64,13 @@ is_served within =
 
 pub has_replies : HasReplies faulted_run
 unfolding noise_word
-has_replies within = are_replies faulted_run within (lit≤ tt)
-    (replied faulted_run within (call_of 0 (Verb.Write 0 (Content.Listed (5 ∷ [])))) Reply.Ok refl refl,
-    (replied faulted_run within (call_of 1 (Verb.Read 0)) (Reply.DieFault 1) refl refl,
-    (replied faulted_run within (call_of 2 (Verb.Read 0)) (Reply.Data 0 (5 ∷ 0 ∷ 0 ∷ 0 ∷ 0 ∷ 0 ∷ 0 ∷ 0 ∷ [])) refl refl,
-    tt)))
+has_replies within = are_replies faulted_run within (lit≤ tt) (
+  replied faulted_run within (call_of 0 (Verb.Write 0 (Content.Listed (5 ∷ [])))) Reply.Ok refl refl,
+  (
+    replied faulted_run within (call_of 1 (Verb.Read 0)) (Reply.DieFault 1) refl refl,
+    (
+      replied faulted_run within (call_of 2 (Verb.Read 0)) (Reply.Data 0 (5 ∷ 0 ∷ 0 ∷ 0 ∷ 0 ∷ 0 ∷ 0 ∷ 0 ∷ [])) refl refl,
+      tt,
+    ),
+  ),
+)

@@ -1,28 +1,17 @@
 -- A collect that copies a page and erases its victim.
-use Rattle.std.proofs.Common.{ℕ, ◌≡◌, Bool, true, false, List, [], ◌∷◌, take, drop, get_or, refl, inl, inr, lit<, lit≤}
-use Rattle.std.specs.Prelude.{All, replicate}
+use Rattle.std.proofs.Common.{false, [], ◌∷◌, take, drop, refl, inl, lit<, lit≤}
 use Rattle.std.proofs.lemmas.List.Elements.{All-from_recursion, All-nil}
 use Rattle.ssd_geo.specs.Noise.{noise_word}
-use Rattle.ssd_geo.specs.Ladder.{LadderState}
-use Rattle.ssd_histories.specs.CallSteps.{CallStep}
-use Rattle.ssd_histories.specs.Copies.{IsCopy, IsRead, IsRefresh}
-use Rattle.ssd_histories.specs.CallsInOrder.{AreRefreshes, IsSomeRefresh}
 use Rattle.ssd_histories.specs.History.{past_of}
-use Rattle.ssd_histories.specs.HistoryExamples.{AreWithinLimits, small_channel, step, tag_of}
-use Rattle.ssd_histories.specs.Rounds.{IsCollect, IsFaultlessRound, IsIdleRound, IsLeftRound, IsRound, IsVictimCopy, IsWrite, IsWritePart}
-use Rattle.ssd_histories.specs.SerialCalls.{IsSerialCopy, decides, erased, erases, finds_none, goes_on, is_idle, is_refused, left, makes_room, picks, stays, takes, writes, writes_again}
-use Rattle.ssd_histories.specs.SerialHistory.{DrainedRefresh, SerialState, finds_none as none_waits, none_left, serves, takes as takes_hint}
-use Rattle.ssd_geo.specs.declared.base.ChannelBase.{ChannelBase}
-use Rattle.ssd_geo.specs.declared.entry.Entry.{Entry}
-use Rattle.ssd_geo.specs.declared.kind.Kind.{Kind}
-use Rattle.ssd_geo.specs.declared.reply.RefreshReply.{RefreshReply}
+use Rattle.ssd_histories.specs.HistoryExamples.{AreWithinLimits, tag_of}
+use Rattle.ssd_histories.specs.Rounds.{IsLeftRound, IsRound, IsVictimCopy}
+use Rattle.ssd_histories.specs.SerialCalls.{IsSerialCopy, decides, erased, erases, goes_on, picks, writes}
+use Rattle.ssd_histories.specs.SerialHistory.{none_left, serves}
 use Rattle.ssd_geo.specs.declared.reply.Reply.{Reply}
-use Rattle.ssd_geo.specs.declared.trace.Content.{Content}
 use Rattle.ssd_geo.specs.declared.trace.Verb.{Verb}
-use Rattle.past_examples.specs.RefreshExamples.{drained_run}
-use Rattle.past_examples.specs.RunExamples.{collected_run, failed_run, faulted_run, freed_run, idle_run, unfit_run, worn_run, written}
-use Rattle.past_examples.specs.WorkedRuns.{HasReplies, IsInOrder, IsServedAlone, WorkedRun, call_of, channel_of, channel_to, ladder_on, state_of, steps_in}
-use Rattle.past_examples.proofs.Copying.{base_of, copy_from, four_from, serial_from, step_at}
+use Rattle.past_examples.specs.RunExamples.{freed_run, written}
+use Rattle.past_examples.specs.WorkedRuns.{HasReplies, IsInOrder, IsServedAlone, call_of, channel_to, ladder_on, state_of, steps_in}
+use Rattle.past_examples.proofs.Copying.{base_of, copy_from, four_from, serial_from}
 use Rattle.past_examples.proofs.WholeCalls.{alone, are_replies, in_order, one_write, replied, whole}
 
 copy_of_0 : (within : AreWithinLimits) → IsVictimCopy (ladder_on freed_run within) (base_of freed_run within) (four_from 5 freed_run 1)
@@ -45,21 +34,32 @@ the_round within = record {
 }
 
 pub calls_in_order : IsInOrder freed_run
-calls_in_order within = in_order freed_run within refl refl
-    (whole freed_run within (written 0 0) (one_write refl refl) tt (lit≤ tt),
-    (whole freed_run within (written 1 0) (one_write refl refl) tt (lit≤ tt),
-    (whole freed_run within (written 2 0) (one_write refl refl) tt (lit≤ tt),
-    (whole freed_run within (written 3 0) (one_write refl refl) tt (lit≤ tt),
-    (whole freed_run within (written 4 1) (one_write refl refl) tt (lit≤ tt),
-    (whole freed_run within (call_of 5 (Verb.Collect 0))
-    (record {
-      parts = [];
-      last = steps_in 5 freed_run;
-      are_steps = refl;
-      are_parts = All-nil (IsLeftRound (ladder_on freed_run within) (base_of freed_run within));
-      ends = inl (record { is_round = the_round within; is_done = refl });
-    }) tt (lit≤ tt),
-    tt))))))
+calls_in_order within = in_order freed_run within refl refl (
+  whole freed_run within (written 0 0) (one_write refl refl) tt (lit≤ tt),
+  (
+    whole freed_run within (written 1 0) (one_write refl refl) tt (lit≤ tt),
+    (
+      whole freed_run within (written 2 0) (one_write refl refl) tt (lit≤ tt),
+      (
+        whole freed_run within (written 3 0) (one_write refl refl) tt (lit≤ tt),
+        (
+          whole freed_run within (written 4 1) (one_write refl refl) tt (lit≤ tt),
+          (
+            whole freed_run within (call_of 5 (Verb.Collect 0))
+                (record {
+                  parts = [];
+                  last = steps_in 5 freed_run;
+                  are_steps = refl;
+                  are_parts = All-nil (IsLeftRound (ladder_on freed_run within) (base_of freed_run within));
+                  ends = inl (record { is_round = the_round within; is_done = refl });
+                }) tt (lit≤ tt),
+            tt,
+          ),
+        ),
+      ),
+    ),
+  ),
+)
 
 pub is_served : IsServedAlone freed_run
 is_served within =
@@ -78,11 +78,22 @@ is_served within =
     (none_left))))))
 
 pub has_replies : HasReplies freed_run
-has_replies within = are_replies freed_run within (lit≤ tt)
-    (replied freed_run within (written 0 0) Reply.Ok refl refl,
-    (replied freed_run within (written 1 0) Reply.Ok refl refl,
-    (replied freed_run within (written 2 0) Reply.Ok refl refl,
-    (replied freed_run within (written 3 0) Reply.Ok refl refl,
-    (replied freed_run within (written 4 1) Reply.Ok refl refl,
-    (replied freed_run within (call_of 5 (Verb.Collect 0)) (Reply.Collected 0) refl refl,
-    tt))))))
+has_replies within = are_replies freed_run within (lit≤ tt) (
+  replied freed_run within (written 0 0) Reply.Ok refl refl,
+  (
+    replied freed_run within (written 1 0) Reply.Ok refl refl,
+    (
+      replied freed_run within (written 2 0) Reply.Ok refl refl,
+      (
+        replied freed_run within (written 3 0) Reply.Ok refl refl,
+        (
+          replied freed_run within (written 4 1) Reply.Ok refl refl,
+          (
+            replied freed_run within (call_of 5 (Verb.Collect 0)) (Reply.Collected 0) refl refl,
+            tt,
+          ),
+        ),
+      ),
+    ),
+  ),
+)

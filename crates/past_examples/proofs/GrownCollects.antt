@@ -1,11 +1,11 @@
 -- A collect that finds a victim with a live page copies it: so it adds three entries or more.
-use Rattle.std.proofs.Common.{ℕ, suc, ◌+◌, ◌≡◌, ◌≤◌, ◌<◌, Bool, true, false, List, [], ◌∷◌, ◌++◌, length, refl, sym, ap, subst, ◌∙◌, arith, length-append}
+use Rattle.std.proofs.Common.{ℕ, ◌+◌, ◌≡◌, ◌≤◌, Bool, true, false, List, [], ◌∷◌, ◌++◌, length, sym, ap, ◌∙◌, arith, length-append}
 use Rattle.std.specs.Prelude.{None}
 use Rattle.std.proofs.lemmas.Bool.{false≢true}
 use Rattle.ssd_geo.specs.Ladder.{LadderState}
 use Rattle.ssd_histories.specs.CallSteps.{CallStep}
 use Rattle.ssd_histories.specs.Room.{live_of_victim, victim_of}
-use Rattle.ssd_histories.specs.SerialCalls.{AreStepsFrom, IsSerialCopy, RoundEnd, SerialCollect, SerialCopies, SerialRound, collects_again, copy_faults, decides, entry_of, erase_faults, erases, finds_none, goes_on, is_idle, may_pick, picks, retires, stays, takes}
+use Rattle.ssd_histories.specs.SerialCalls.{AreStepsFrom, IsSerialCopy, RoundEnd, SerialCollect, SerialCopies, SerialRound, collects_again, copy_faults, decides, erase_faults, erases, finds_none, goes_on, is_idle, may_pick, picks, retires, stays, takes}
 use Rattle.ssd_geo.specs.declared.base.ChannelBase.{ChannelBase}
 use Rattle.ssd_geo.specs.declared.entry.Entry.{Entry}
 use Rattle.ssd_geo.specs.declared.tag.Tag.{Tag}

@@ -1,29 +1,16 @@
 -- A collect with nothing to do.
-use Rattle.std.proofs.Common.{ℕ, ◌≡◌, Bool, true, false, List, [], ◌∷◌, take, drop, get_or, refl, inl, inr, lit<, lit≤}
-use Rattle.std.specs.Prelude.{All, replicate}
-use Rattle.std.proofs.lemmas.List.Elements.{All-from_recursion, All-nil}
-use Rattle.ssd_geo.specs.Noise.{noise_word}
-use Rattle.ssd_geo.specs.Ladder.{LadderState}
-use Rattle.ssd_histories.specs.CallSteps.{CallStep}
-use Rattle.ssd_histories.specs.Copies.{IsCopy, IsRead, IsRefresh}
-use Rattle.ssd_histories.specs.CallsInOrder.{AreRefreshes, IsSomeRefresh}
-use Rattle.ssd_histories.specs.History.{past_of}
-use Rattle.ssd_histories.specs.HistoryExamples.{AreWithinLimits, small_channel, step, tag_of}
-use Rattle.ssd_histories.specs.Rounds.{IsCollect, IsFaultlessRound, IsIdleRound, IsLeftRound, IsRound, IsVictimCopy, IsWrite, IsWritePart}
-use Rattle.ssd_histories.specs.SerialCalls.{IsSerialCopy, decides, erased, erases, finds_none, goes_on, is_idle, is_refused, left, makes_room, picks, stays, takes, writes, writes_again}
-use Rattle.ssd_histories.specs.SerialHistory.{DrainedRefresh, SerialState, finds_none as none_waits, none_left, serves, takes as takes_hint}
-use Rattle.ssd_geo.specs.declared.base.ChannelBase.{ChannelBase}
-use Rattle.ssd_geo.specs.declared.entry.Entry.{Entry}
-use Rattle.ssd_geo.specs.declared.kind.Kind.{Kind}
-use Rattle.ssd_geo.specs.declared.reply.RefreshReply.{RefreshReply}
+use Rattle.std.proofs.Common.{[], refl, inr, lit≤}
+use Rattle.std.proofs.lemmas.List.Elements.{All-nil}
+use Rattle.ssd_histories.specs.HistoryExamples.{AreWithinLimits}
+use Rattle.ssd_histories.specs.Rounds.{IsFaultlessRound, IsLeftRound, IsVictimCopy}
+use Rattle.ssd_histories.specs.SerialCalls.{finds_none, is_idle, takes}
+use Rattle.ssd_histories.specs.SerialHistory.{none_left, serves}
 use Rattle.ssd_geo.specs.declared.reply.Reply.{Reply}
-use Rattle.ssd_geo.specs.declared.trace.Content.{Content}
 use Rattle.ssd_geo.specs.declared.trace.Verb.{Verb}
-use Rattle.past_examples.specs.RefreshExamples.{drained_run}
-use Rattle.past_examples.specs.RunExamples.{collected_run, failed_run, faulted_run, freed_run, idle_run, unfit_run, worn_run, written}
-use Rattle.past_examples.specs.WorkedRuns.{HasReplies, IsInOrder, IsServedAlone, WorkedRun, call_of, channel_of, channel_to, ladder_on, state_of, steps_in}
-use Rattle.past_examples.proofs.Copying.{base_of, copy_from, four_from, serial_from, step_at}
-use Rattle.past_examples.proofs.WholeCalls.{alone, are_replies, in_order, one_write, replied, whole}
+use Rattle.past_examples.specs.RunExamples.{idle_run}
+use Rattle.past_examples.specs.WorkedRuns.{HasReplies, IsInOrder, IsServedAlone, call_of, channel_to, ladder_on, state_of, steps_in}
+use Rattle.past_examples.proofs.Copying.{base_of, step_at}
+use Rattle.past_examples.proofs.WholeCalls.{alone, are_replies, in_order, replied, whole}
 
 no_round : (within : AreWithinLimits) → IsFaultlessRound (ladder_on idle_run within) (base_of idle_run within) []
 no_round within = record {
@@ -41,16 +28,17 @@ no_round within = record {
 }
 
 pub calls_in_order : IsInOrder idle_run
-calls_in_order within = in_order idle_run within refl refl
-    (whole idle_run within (call_of 0 (Verb.Collect 0))
-    (record {
-      parts = [];
-      last = steps_in 0 idle_run;
-      are_steps = refl;
-      are_parts = All-nil (IsLeftRound (ladder_on idle_run within) (base_of idle_run within));
-      ends = inr (record { round = []; note = step_at 0 idle_run 0; are_steps = refl; is_round = no_round within; no_erase = refl; may_end = refl });
-    }) tt (lit≤ tt),
-    tt)
+calls_in_order within = in_order idle_run within refl refl (
+  whole idle_run within (call_of 0 (Verb.Collect 0))
+      (record {
+        parts = [];
+        last = steps_in 0 idle_run;
+        are_steps = refl;
+        are_parts = All-nil (IsLeftRound (ladder_on idle_run within) (base_of idle_run within));
+        ends = inr (record { round = []; note = step_at 0 idle_run 0; are_steps = refl; is_round = no_round within; no_erase = refl; may_end = refl });
+      }) tt (lit≤ tt),
+  tt,
+)
 
 pub is_served : IsServedAlone idle_run
 is_served within =

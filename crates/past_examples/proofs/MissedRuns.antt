@@ -1,5 +1,5 @@
 -- Why the runs that were changed aren't what they were.
-use Rattle.std.proofs.Common.{ℕ, ◌≡◌, Bool, true, false, List, [], ◌∷◌, drop, get_or, refl, sym, ap}
+use Rattle.std.proofs.Common.{◌≡◌, Bool, true, false, List, [], ◌∷◌, get_or, refl, sym, ap}
 use Rattle.std.proofs.lemmas.Bool.{false≢true}
 use Rattle.std.proofs.lemmas.List.Elements.{recursion_from_All}
 use Rattle.std.specs.Prelude.{IsTrue}
@@ -7,11 +7,10 @@ use Rattle.std.specs.List.{list_all}
 use Rattle.ssd_geo.specs.Noise.{noise_word}
 use Rattle.ssd_histories.specs.CallSteps.{CallStep}
 use Rattle.ssd_histories.specs.CallsInOrder.{is_of_call, never_fall, steps_on}
-use Rattle.ssd_histories.specs.HistoryExamples.{AreWithinLimits, tag_of}
+use Rattle.ssd_histories.specs.HistoryExamples.{tag_of}
 use Rattle.ssd_histories.specs.SerialHistory.{is_hint}
 use Rattle.ssd_geo.specs.declared.reply.Reply.{Reply}
 use Rattle.past_examples.specs.RunExamples.{IsOutOfOrder, LacksReplies, entry_of_earlier, two_unanswered, unknown_call, wrong_rung}
-use Rattle.past_examples.specs.WorkedRuns.{channel_of}
 use Rattle.past_examples.proofs.WholeCalls.{HasReply, IsMade, channels}
 
 -- the first read's entries give data of rung 1

@@ -1,12 +1,9 @@
 -- The worked refreshes, part by part.
-use Rattle.std.proofs.Common.{ℕ, ◌≡◌, List, [], ◌∷◌, take, drop, refl, sym, ◌∙◌, inl, inr, get_or}
+use Rattle.std.proofs.Common.{[], ◌∷◌, take, drop, refl, inr}
 use Rattle.std.proofs.lemmas.Bool.{false≢true}
 use Rattle.ssd_geo.specs.Noise.{noise_word}
-use Rattle.ssd_histories.specs.CallSteps.{CallStep}
-use Rattle.ssd_histories.specs.HistoryExamples.{AreWithinLimits, step}
-use Rattle.ssd_geo.specs.declared.kind.Kind.{Kind}
 use Rattle.past_examples.specs.RefreshExamples.{IsCopyIn, IsNoRefreshIn, IsReadIn, IsRefreshIn, drained_run, lost_run}
-use Rattle.past_examples.specs.WorkedRuns.{WorkedRun, ladder_on, steps_in}
+use Rattle.past_examples.specs.WorkedRuns.{ladder_on, steps_in}
 use Rattle.past_examples.proofs.Copying.{step_at}
 use Rattle.past_examples.proofs.RefreshTests.{refresh_passes}
 

@@ -1,8 +1,8 @@
 -- Steps that are a refresh pass a test that computes: so steps that fail it aren't one.
-use Rattle.std.proofs.Common.{ℕ, ◌≡◌, Bool, true, false, List, [], ◌∷◌, ◌++◌, refl, sym, ap, subst, ◌∙◌, inl, inr}
-use Rattle.std.specs.Prelude.{◌&&◌, ◌||◌, IsTrue}
+use Rattle.std.proofs.Common.{ℕ, ◌≡◌, Bool, true, false, List, [], ◌∷◌, ◌++◌, refl, ap, ◌∙◌, inl, inr}
+use Rattle.std.specs.Prelude.{◌&&◌, ◌||◌}
 use Rattle.std.specs.List.{list_all}
-use Rattle.std.proofs.lemmas.Bool.{and_parts, false≢true}
+use Rattle.std.proofs.lemmas.Bool.{and_parts, false≢true, or_left, or_right}
 use Rattle.ssd_histories.specs.CallSteps.{CallStep, is_leave_of, is_look_at_row, is_sense_of, position_of}
 use Rattle.ssd_histories.specs.Copies.{IsPageList, IsRefresh, is_after_recovered, is_lone_look, is_refresh_end, is_refreshed}
 use Rattle.ssd_geo.specs.Ladder.{LadderState, is_recovered, is_uncorrectable}
@@ -80,16 +80,8 @@ page_list_passes ladder row steps list =
     ap (is_page_refresh ladder row) list.is_list.are_steps
     ∙ rw list.of_row end
 
-either : (a b : Bool) → (a ≡ true) → (a || b) ≡ true
-either true b e = refl
-either false b e = absurd (false≢true e)
-
-other : (a b : Bool) → (b ≡ true) → (a || b) ≡ true
-other true b e = refl
-other false b e = e
-
 pub refresh_passes : (ladder : List Entry → ℕ → LadderState) (row : ℕ) (steps : List CallStep) → IsRefresh ladder row steps →
     passes ladder row steps ≡ true
-refresh_passes ladder row steps (inl lone) = either (is_lone_look row steps) (is_page_refresh ladder row steps) lone
+refresh_passes ladder row steps (inl lone) = or_left (is_lone_look row steps) (is_page_refresh ladder row steps) lone
 refresh_passes ladder row steps (inr list) =
-    other (is_lone_look row steps) (is_page_refresh ladder row steps) (page_list_passes ladder row steps list)
+    or_right (is_lone_look row steps) (is_page_refresh ladder row steps) (page_list_passes ladder row steps list)

@@ -1,5 +1,5 @@
 -- What a drain that takes pages has done: which page it took first, and whether it went on.
-use Rattle.std.proofs.Common.{ℕ, zero, suc, ◌≡◌, Bool, true, false, List, [], ◌∷◌, ◌++◌, map, reverse, refl, sym, ap, ◌∙◌, inl, inr, append-nil, append_assoc}
+use Rattle.std.proofs.Common.{ℕ, suc, ◌≡◌, Bool, true, false, List, [], ◌∷◌, ◌++◌, map, reverse, refl, sym, ap, ◌∙◌, inl, inr, append-nil, append_assoc}
 use Rattle.std.specs.Prelude.{◌⊎◌}
 use Rattle.std.proofs.lemmas.List.{reverse-append}
 use Rattle.ssd_histories.specs.CallSteps.{CallStep}

@@ -1,6 +1,6 @@
 -- What a whole run of one channel owes, one call at a time.
-use Rattle.std.proofs.Common.{ℕ, ◌≡◌, ◌≤◌, ◌==◌, Bool, true, false, List, [], ◌∷◌, length, take, refl, sym, ap, subst, ◌∙◌, inl, inr}
-use Rattle.std.specs.Prelude.{All, IsTrue, Option, Some, nat_lt, unwrap_or, count_by}
+use Rattle.std.proofs.Common.{ℕ, ◌≡◌, ◌≤◌, ◌==◌, true, List, [], ◌∷◌, length, take, refl, sym, ap, subst, ◌∙◌, inl}
+use Rattle.std.specs.Prelude.{IsTrue, Option, Some, nat_lt, unwrap_or, count_by}
 use Rattle.std.specs.List.{AllByRecursion, enumerate_from, list_all}
 use Rattle.std.specs.Option.{ForSome}
 use Rattle.std.proofs.lemmas.List.Elements.{All-from_recursion, All-nil}
@@ -10,7 +10,7 @@ use Rattle.ssd_histories.specs.CallsInOrder.{AreCallSteps, AreCallsInOrder, AreR
 use Rattle.ssd_histories.specs.History.{past_of}
 use Rattle.ssd_histories.specs.HistoryExamples.{AreWithinLimits}
 use Rattle.ssd_histories.specs.Rounds.{IsWrite, IsWritePart, has_cause_to_pick, is_one, is_write_end}
-use Rattle.ssd_histories.specs.SerialHistory.{OnChannel, SerialState}
+use Rattle.ssd_histories.specs.SerialHistory.{OnChannel}
 use Rattle.ssd_geo.specs.declared.base.ChannelBase.{ChannelBase}
 use Rattle.ssd_geo.specs.declared.entry.Entry.{Entry}
 use Rattle.ssd_geo.specs.declared.reply.Reply.{Reply}

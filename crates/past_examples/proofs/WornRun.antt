@@ -1,27 +1,17 @@
 -- A run on a channel that becomes full and then worn.
-use Rattle.std.proofs.Common.{ℕ, ◌≡◌, Bool, true, false, List, [], ◌∷◌, take, drop, get_or, refl, inl, inr, lit<, lit≤}
-use Rattle.std.specs.Prelude.{All, replicate}
-use Rattle.std.proofs.lemmas.List.Elements.{All-from_recursion, All-nil}
+use Rattle.std.proofs.Common.{true, false, [], ◌∷◌, take, drop, refl, inl, inr, lit<, lit≤}
+use Rattle.std.proofs.lemmas.List.Elements.{All-from_recursion}
 use Rattle.ssd_geo.specs.Noise.{noise_word}
-use Rattle.ssd_geo.specs.Ladder.{LadderState}
-use Rattle.ssd_histories.specs.CallSteps.{CallStep}
-use Rattle.ssd_histories.specs.Copies.{IsCopy, IsRead, IsRefresh}
-use Rattle.ssd_histories.specs.CallsInOrder.{AreRefreshes, IsSomeRefresh}
+use Rattle.ssd_histories.specs.Copies.{IsRead}
 use Rattle.ssd_histories.specs.History.{past_of}
-use Rattle.ssd_histories.specs.HistoryExamples.{AreWithinLimits, small_channel, step, tag_of}
-use Rattle.ssd_histories.specs.Rounds.{IsCollect, IsFaultlessRound, IsIdleRound, IsLeftRound, IsRound, IsVictimCopy, IsWrite, IsWritePart}
-use Rattle.ssd_histories.specs.SerialCalls.{IsSerialCopy, decides, erased, erases, finds_none, goes_on, is_idle, is_refused, left, makes_room, picks, stays, takes, writes, writes_again}
-use Rattle.ssd_histories.specs.SerialHistory.{DrainedRefresh, SerialState, finds_none as none_waits, none_left, serves, takes as takes_hint}
-use Rattle.ssd_geo.specs.declared.base.ChannelBase.{ChannelBase}
-use Rattle.ssd_geo.specs.declared.entry.Entry.{Entry}
-use Rattle.ssd_geo.specs.declared.kind.Kind.{Kind}
-use Rattle.ssd_geo.specs.declared.reply.RefreshReply.{RefreshReply}
+use Rattle.ssd_histories.specs.HistoryExamples.{AreWithinLimits, tag_of}
+use Rattle.ssd_histories.specs.Rounds.{IsRound, IsVictimCopy, IsWrite, IsWritePart}
+use Rattle.ssd_histories.specs.SerialCalls.{IsSerialCopy, goes_on, is_refused, left, makes_room, picks, stays, writes, writes_again}
+use Rattle.ssd_histories.specs.SerialHistory.{none_left, serves}
 use Rattle.ssd_geo.specs.declared.reply.Reply.{Reply}
-use Rattle.ssd_geo.specs.declared.trace.Content.{Content}
 use Rattle.ssd_geo.specs.declared.trace.Verb.{Verb}
-use Rattle.past_examples.specs.RefreshExamples.{drained_run}
-use Rattle.past_examples.specs.RunExamples.{collected_run, failed_run, faulted_run, freed_run, idle_run, unfit_run, worn_run, written}
-use Rattle.past_examples.specs.WorkedRuns.{HasReplies, IsInOrder, IsServedAlone, WorkedRun, call_of, channel_of, channel_to, ladder_on, state_of, steps_in}
+use Rattle.past_examples.specs.RunExamples.{worn_run, written}
+use Rattle.past_examples.specs.WorkedRuns.{HasReplies, IsInOrder, IsServedAlone, call_of, channel_to, ladder_on, state_of, steps_in}
 use Rattle.past_examples.proofs.Copying.{base_of, copy_from, four_from, serial_from, step_at}
 use Rattle.past_examples.proofs.WholeCalls.{alone, are_replies, in_order, one_write, replied, whole}
 
@@ -49,15 +39,15 @@ staying_copy_alone within = serial_from 10 worn_run 9 within 20 true (refl, refl
 last_read : (within : AreWithinLimits) → IsRead (ladder_on worn_run within) 3 (steps_in 11 worn_run)
 unfolding noise_word
 last_read within =
-  inr
-  (record {
-    look = step_at 11 worn_run 0;
-    ending = [];
-    leave = step_at 11 worn_run 2;
-    is_list = record { senses = take 1 (drop 1 (steps_in 11 worn_run)); are_steps = refl; finds_page = refl; are_senses = refl; is_left = refl };
-    of_row = refl;
-    ends = refl;
-  })
+    inr
+    (record {
+      look = step_at 11 worn_run 0;
+      ending = [];
+      leave = step_at 11 worn_run 2;
+      is_list = record { senses = take 1 (drop 1 (steps_in 11 worn_run)); are_steps = refl; finds_page = refl; are_senses = refl; is_left = refl };
+      of_row = refl;
+      ends = refl;
+    })
 
 the_round : (within : AreWithinLimits) → IsRound (ladder_on worn_run within) (base_of worn_run within) (take 13 (steps_in 10 worn_run))
 the_round within = record {
@@ -92,20 +82,43 @@ worn_write within = record {
 }
 
 pub calls_in_order : IsInOrder worn_run
-calls_in_order within = in_order worn_run within refl refl
-    (whole worn_run within (written 0 0) (one_write refl refl) tt (lit≤ tt),
-    (whole worn_run within (written 1 1) (one_write refl refl) tt (lit≤ tt),
-    (whole worn_run within (written 2 2) (one_write refl refl) tt (lit≤ tt),
-    (whole worn_run within (written 3 3) (one_write refl refl) tt (lit≤ tt),
-    (whole worn_run within (written 4 4) (one_write refl refl) tt (lit≤ tt),
-    (whole worn_run within (written 5 5) (one_write refl refl) tt (lit≤ tt),
-    (whole worn_run within (written 6 6) (one_write refl refl) tt (lit≤ tt),
-    (whole worn_run within (written 7 7) (one_write refl refl) tt (lit≤ tt),
-    (whole worn_run within (written 8 0) (full_write within) tt (lit≤ tt),
-    (whole worn_run within (call_of 9 (Verb.Trim 1)) refl tt (lit≤ tt),
-    (whole worn_run within (written 10 0) (worn_write within) tt (lit≤ tt),
-    (whole worn_run within (call_of 11 (Verb.Read 3)) (last_read within) tt (lit≤ tt),
-    tt))))))))))))
+calls_in_order within = in_order worn_run within refl refl (
+  whole worn_run within (written 0 0) (one_write refl refl) tt (lit≤ tt),
+  (
+    whole worn_run within (written 1 1) (one_write refl refl) tt (lit≤ tt),
+    (
+      whole worn_run within (written 2 2) (one_write refl refl) tt (lit≤ tt),
+      (
+        whole worn_run within (written 3 3) (one_write refl refl) tt (lit≤ tt),
+        (
+          whole worn_run within (written 4 4) (one_write refl refl) tt (lit≤ tt),
+          (
+            whole worn_run within (written 5 5) (one_write refl refl) tt (lit≤ tt),
+            (
+              whole worn_run within (written 6 6) (one_write refl refl) tt (lit≤ tt),
+              (
+                whole worn_run within (written 7 7) (one_write refl refl) tt (lit≤ tt),
+                (
+                  whole worn_run within (written 8 0) (full_write within) tt (lit≤ tt),
+                  (
+                    whole worn_run within (call_of 9 (Verb.Trim 1)) refl tt (lit≤ tt),
+                    (
+                      whole worn_run within (written 10 0) (worn_write within) tt (lit≤ tt),
+                      (
+                        whole worn_run within (call_of 11 (Verb.Read 3)) (last_read within) tt (lit≤ tt),
+                        tt,
+                      ),
+                    ),
+                  ),
+                ),
+              ),
+            ),
+          ),
+        ),
+      ),
+    ),
+  ),
+)
 
 pub is_served : IsServedAlone worn_run
 unfolding noise_word
@@ -138,17 +151,40 @@ is_served within =
 
 pub has_replies : HasReplies worn_run
 unfolding noise_word
-has_replies within = are_replies worn_run within (lit≤ tt)
-    (replied worn_run within (written 0 0) Reply.Ok refl refl,
-    (replied worn_run within (written 1 1) Reply.Ok refl refl,
-    (replied worn_run within (written 2 2) Reply.Ok refl refl,
-    (replied worn_run within (written 3 3) Reply.Ok refl refl,
-    (replied worn_run within (written 4 4) Reply.Ok refl refl,
-    (replied worn_run within (written 5 5) Reply.Ok refl refl,
-    (replied worn_run within (written 6 6) Reply.Ok refl refl,
-    (replied worn_run within (written 7 7) Reply.Ok refl refl,
-    (replied worn_run within (written 8 0) Reply.Full refl refl,
-    (replied worn_run within (call_of 9 (Verb.Trim 1)) Reply.Ok refl refl,
-    (replied worn_run within (written 10 0) Reply.ReadOnly refl refl,
-    (replied worn_run within (call_of 11 (Verb.Read 3)) (Reply.Data 0 (3 ∷ 0 ∷ 0 ∷ 0 ∷ 0 ∷ 0 ∷ 0 ∷ 0 ∷ [])) refl refl,
-    tt))))))))))))
+has_replies within = are_replies worn_run within (lit≤ tt) (
+  replied worn_run within (written 0 0) Reply.Ok refl refl,
+  (
+    replied worn_run within (written 1 1) Reply.Ok refl refl,
+    (
+      replied worn_run within (written 2 2) Reply.Ok refl refl,
+      (
+        replied worn_run within (written 3 3) Reply.Ok refl refl,
+        (
+          replied worn_run within (written 4 4) Reply.Ok refl refl,
+          (
+            replied worn_run within (written 5 5) Reply.Ok refl refl,
+            (
+              replied worn_run within (written 6 6) Reply.Ok refl refl,
+              (
+                replied worn_run within (written 7 7) Reply.Ok refl refl,
+                (
+                  replied worn_run within (written 8 0) Reply.Full refl refl,
+                  (
+                    replied worn_run within (call_of 9 (Verb.Trim 1)) Reply.Ok refl refl,
+                    (
+                      replied worn_run within (written 10 0) Reply.ReadOnly refl refl,
+                      (
+                        replied worn_run within (call_of 11 (Verb.Read 3)) (Reply.Data 0 (3 ∷ 0 ∷ 0 ∷ 0 ∷ 0 ∷ 0 ∷ 0 ∷ 0 ∷ [])) refl refl,
+                        tt,
+                      ),
+                    ),
+                  ),
+                ),
+              ),
+            ),
+          ),
+        ),
+      ),
+    ),
+  ),
+)

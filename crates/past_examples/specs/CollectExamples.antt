@@ -1,11 +1,10 @@
 -- Which notes are idle, and which calls are collects? A collect goes on until a round decides its reply or a note after a
 -- round is idle. One that ends with another note, and one that leaves a live page without a copy, just miss.
-use Rattle.std.specs.Prelude.{ℕ, ◌≡◌, Bool, get_or, List, [], ◌∷◌, ◌++◌, take, drop, true, Option, Some, None, pos}
+use Rattle.std.specs.Prelude.{ℕ, ◌≡◌, Bool, get_or, List, [], ◌∷◌, ◌++◌, take, true, Option, Some, None, pos}
 use Rattle.ssd_geo.specs.Coding.{coding_of}
 use Rattle.ssd_geo.specs.Ladder.{LadderState}
 use Rattle.ssd_histories.specs.History.{past_of}
 use Rattle.ssd_histories.specs.HistoryExamples.{AreWithinLimits, blank_start, freed_history, numbered_contents, page, place, small_channel, step, tag_of, worn_history}
-use Rattle.ssd_histories.specs.PageMap.{slot_at}
 use Rattle.ssd_histories.specs.CallSteps.{steps_of}
 use Rattle.ssd_histories.specs.Rounds.{may_end}
 use Rattle.ssd_histories.specs.PastPages.{ladder_of}

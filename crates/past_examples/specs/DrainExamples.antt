@@ -1,6 +1,6 @@
 -- Which calls are drains? One goes on until it has as many pages as it asked for, until no page waits, or until a die's call
 -- fails. One that goes on after that, one that takes the newest page and one that stops early just miss.
-use Rattle.std.specs.Prelude.{ℕ, true, false, List, [], ◌∷◌, pos}
+use Rattle.std.specs.Prelude.{ℕ, false, List, [], ◌∷◌, pos}
 use Rattle.ssd_histories.specs.HistoryExamples.{AreWithinLimits, page, place, step, tag_of}
 use Rattle.ssd_histories.specs.PageMap.{slot_at}
 use Rattle.ssd_histories.specs.SerialHistory.{SerialDrain}

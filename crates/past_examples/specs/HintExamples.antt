@@ -1,8 +1,8 @@
 -- Which reads leave a hint, and what does a full queue do? A read that found its page past the first level pushes it; the queue
 -- takes 256 pages, and drops the next.
-use Rattle.std.specs.Prelude.{ℕ, ◌≡◌, ◌++◌, List, [], ◌∷◌, replicate}
+use Rattle.std.specs.Prelude.{ℕ, ◌≡◌, ◌++◌, [], ◌∷◌, replicate}
 use Rattle.ssd_histories.specs.CallsInOrder.{ChannelRun}
-use Rattle.ssd_histories.specs.SerialHistory.{SerialState, with_hint}
+use Rattle.ssd_histories.specs.SerialHistory.{with_hint}
 use Rattle.past_examples.specs.WorkedRuns.{state_of}
 
 -- with so many pages that wait a page is pushed, and is dropped

@@ -1,7 +1,6 @@
 -- Which steps are a refresh? One moves a page, and one leaves a page that can't be recovered. A copy that condemns its page,
 -- a read and a refresh of another row just miss.
-use Rattle.std.specs.Prelude.{ℕ, ◌⊎◌, true, false, IsTrue, List, [], ◌∷◌, get_or, pos, negsuc}
-use Rattle.ssd_histories.specs.CallSteps.{CallStep}
+use Rattle.std.specs.Prelude.{ℕ, true, false, List, [], ◌∷◌, get_or, pos, negsuc}
 use Rattle.ssd_histories.specs.Copies.{IsCopy, IsRead, IsRefresh}
 use Rattle.ssd_histories.specs.HistoryExamples.{AreWithinLimits, page, place, step, tag_of}
 use Rattle.ssd_histories.specs.PageMap.{slot_at}

@@ -3,7 +3,7 @@
 use Rattle.std.specs.Prelude.{ℕ, ◌≡◌, ◌++◌, List, [], ◌∷◌, take, true, Some, None, pos}
 use Rattle.ssd_histories.specs.FollowedViews.{FollowsTold}
 use Rattle.ssd_histories.specs.History.{past_of}
-use Rattle.ssd_histories.specs.HistoryExamples.{AreWithinLimits, blank_start, collected_history, page, place, small_channel, step, tag_of}
+use Rattle.ssd_histories.specs.HistoryExamples.{AreWithinLimits, blank_start, collected_history, page, place, small_channel, step}
 use Rattle.ssd_histories.specs.PageMap.{slot_at}
 use Rattle.ssd_histories.specs.Policies.{first_view}
 use Rattle.ssd_histories.specs.Standing.{view_told}

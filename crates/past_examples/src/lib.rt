@@ -21,6 +21,7 @@ pub use hint_examples::{example_hints, example_queue};
 pub use refresh_examples::{example_no_refreshes, example_refreshes, refreshed_histories};
 pub use run_examples::{
     run_on_a_worn_channel, run_with_a_collect, run_with_a_collection, run_with_a_drain,
-    run_with_a_fault, run_with_a_weak_die, run_with_an_idle_collect, run_with_another_pick, runs_that_just_miss,
+    run_with_a_fault, run_with_a_weak_die, run_with_an_idle_collect, run_with_another_pick,
+    runs_that_just_miss,
 };
 pub use view_examples::{followed_policies, unfit_pick};
