@@ -1,0 +1,11 @@
+mod Lists
+mod Seats
+mod Pushing
+mod Taking
+mod Opening
+mod Gathering
+mod Telling
+mod Seating
+mod Dealt
+mod Merging
+mod Ending
