@@ -5,9 +5,11 @@
 mod counts;
 mod hint_list;
 mod hint_pass;
+mod hints;
 mod law;
 mod steps;
 mod view;
 
 pub use hint_list::HintList;
 pub use hint_pass::HintPass;
+pub use hints::Hints;
