@@ -2,8 +2,8 @@
 use Rattle.std.proofs.Common.{◌≡◌, ℕ, zero, suc, ◌+◌, ◌≤◌, nat_le, false, length, List, [], ◌∷◌, ◌++◌, refl, sym, ap, ◌∙◌, subst, arith}
 use Rattle.atomic_table.specs.Seated.{TableId}
 use Rattle.crossbeam_queue.specs.Passes.{view}
-use Rattle.hint_queue.specs.Counts.{one_share, times}
-use Rattle.hint_queue.specs.Orders.{HintPassState, QueueState, new_pass, new_passes}
+use Rattle.hint_queue.specs.Counts.{one_share, seen_in, times}
+use Rattle.hint_queue.specs.Orders.{HintPassState, QueueState, new_pass, new_passes, pages_of}
 use Rattle.hint_queue.specs.Places.{IsSeated, Place, TellerSeat, events, part_in, pass_at}
 use Rattle.hint_queue.specs.Steps.{new_part}
 use Rattle.hint_queue.specs.declared.view.Part.{Part}
@@ -30,6 +30,20 @@ module _ (passes pages number : ℕ) (place : Place) (teller : TellerSeat) (at :
     share = ap (λ m. m.0.share) told;
     told = λ word. ap (λ m. times word m.0.told) told ∙ (nothing_told passes pages number word ∙ ap (events word) (sym there));
   }
+
+  pub dealt_pass : (queue : QueueState) → place.table_id ≡ queue.queue → teller.table_id ≡ queue.counts → passes ≡ queue.passes → pages ≡ queue.pages → pass_at place teller ≡ new_pass queue number
+  dealt_pass queue at_queue at_counts count bound =
+      let seen : teller.me.0.seen ≡ [] = ap (λ m. m.0.seen) told in
+      let passes_is : (part_in (view place)).passes ≡ queue.passes = ap (λ (p : Part). p.passes) there ∙ count in
+      let pages_is : (part_in (view place)).pages ≡ queue.pages = ap (λ (p : Part). p.pages) there ∙ bound in
+      λ i. record {
+        queue = record { queue = at_queue i; counts = at_counts i; passes = passes_is i; pages = pages_is i };
+        number = (there i).number;
+        pushed = (there i).pushed;
+        taken = pages_of (there i).taken;
+        known = seen_in ((there i).number + 1) (seen i);
+        met_full = nat_le 256 (seen_in 0 (seen i));
+      }
 
 one_more : (queue : QueueState) (from count : ℕ) → new_passes queue from count ++ new_pass queue (from + count) ∷ [] ≡ new_passes queue from (suc count)
 one_more queue from zero = let same : from + 0 ≡ from = omega arith in ap (λ n. new_pass queue n ∷ []) same

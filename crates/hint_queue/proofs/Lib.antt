@@ -9,3 +9,5 @@ mod Seating
 mod Dealt
 mod Merging
 mod Ending
+mod Whole
+mod Closing

@@ -47,10 +47,10 @@ know_more more sights (pass ∷ passes) know = (
 )
 
 module _ (number pushes : ℕ) (place : Place) (teller : TellerSeat) (is : IsSeated number pushes place teller) where
-  own_part : IsPartOf (pass_at place teller) (part_in (view place))
+  pub own_part : IsPartOf (pass_at place teller) (part_in (view place))
   own_part = record { passes = refl; pages = refl; number = refl; pushed = refl; taken = refl }
 
-  own_knows : (more : List Sight) → Knows (teller.me.0.seen ++ more) (pass_at place teller)
+  pub own_knows : (more : List Sight) → Knows (teller.me.0.seen ++ more) (pass_at place teller)
   own_knows more = record {
     known = λ most below. seen_below most ((part_in (view place)).number + 1) teller.me.0.seen (below_left most teller.me.0.seen more below);
     met_full = λ most below full.

@@ -58,7 +58,6 @@ struct Whole {
 }
 
 impl Hints {
-    #[tactic(none)]
     /// An empty queue of pages below a bound, and its passes in the order of their numbers.
     pub fn new(
         alloc: Global,
@@ -87,7 +86,6 @@ impl Hints {
         Ok((hints, dealt))
     }
 
-    #[tactic(none)]
     // The passes in the order of their numbers.
     fn dealt(
         &self,
@@ -118,7 +116,6 @@ impl Hints {
         Ok(dealt)
     }
 
-    #[tactic(none)]
     /// Puts a page behind the others, unless the queue is full.
     pub fn push<R: Wait>(&self, rt: &R, pass: HintPass, page: u32) -> (HintPass, bool)
         requires queue { pass.queue ≡ self.now }
@@ -143,7 +140,6 @@ impl Hints {
         (HintPass::of(seats), false)
     }
 
-    #[tactic(none)]
     /// Takes the page in front, if there is one.
     pub fn pop<R: Wait>(&self, rt: &R, pass: HintPass) -> (HintPass, Option<u32>)
         requires { pass.queue ≡ self.now }
@@ -162,7 +158,6 @@ impl Hints {
         (HintPass::of(seats), None)
     }
 
-    #[tactic(none)]
     // One pass more is taken in.
     fn gather(&self, whole: Whole, pass: HintPass) -> Whole
         requires pass { pass.queue ≡ self.now }
@@ -180,7 +175,6 @@ impl Hints {
         Whole { place, teller }
     }
 
-    #[tactic(none)]
     // The seats of a pass that will take in others.
     fn first(&self, pass: HintPass) -> Whole
         requires { pass.queue ≡ self.now }
@@ -194,7 +188,6 @@ impl Hints {
         }
     }
 
-    #[tactic(none)]
     // All passes in one.
     fn gathered(&self, mut passes: Vec<HintPass>) -> Whole
         requires some { 1 ≤ length passes.items }
@@ -209,7 +202,6 @@ impl Hints {
         whole
     }
 
-    #[tactic(none)]
     /// Takes the passes in, one after the other.
     pub fn close<R: Wait>(self, rt: &R, passes: Vec<HintPass>)
         requires queue { All (λ pass. pass.queue ≡ self) passes.items }
