@@ -11,3 +11,4 @@ mod Merging
 mod Ending
 mod Whole
 mod Closing
+mod Later

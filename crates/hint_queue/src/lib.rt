@@ -13,3 +13,6 @@ mod view;
 pub use hint_list::HintList;
 pub use hint_pass::HintPass;
 pub use hints::Hints;
+
+#[cfg(test)]
+mod tests;
