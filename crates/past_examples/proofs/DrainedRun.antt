@@ -3,7 +3,7 @@ use Rattle.std.proofs.Common.{◌≡◌, false, [], ◌∷◌, take, drop, refl,
 use Rattle.std.proofs.lemmas.List.Elements.{All-from_recursion}
 use Rattle.ssd_geo.specs.Noise.{noise_word}
 use Rattle.ssd_histories.specs.Copies.{IsRead, IsRefresh}
-use Rattle.ssd_histories.specs.CallsInOrder.{IsSomeRefresh, ladder_in, steps_on}
+use Rattle.ssd_histories.specs.CallsInOrder.{IsBegun, IsBegunOn, IsSomeRefresh, ladder_in, steps_on}
 use Rattle.ssd_histories.specs.Replies.{decided_pages, drained_on, pages_on}
 use Rattle.std.specs.List.{enumerate_from}
 use Rattle.past_examples.proofs.RefreshExamples.{is_moved}
@@ -16,6 +16,7 @@ use Rattle.ssd_geo.specs.declared.reply.Reply.{Reply}
 use Rattle.ssd_geo.specs.declared.trace.Content.{Content}
 use Rattle.ssd_geo.specs.declared.trace.Verb.{Verb}
 use Rattle.past_examples.specs.RefreshExamples.{drained_run}
+use Rattle.past_examples.specs.RunExamples.{begun_run}
 use Rattle.past_examples.specs.WorkedRuns.{HasReplies, IsInOrder, IsServedAlone, call_of, channel_of, channel_to, ladder_on, state_of, steps_in}
 use Rattle.past_examples.proofs.Copying.{step_at}
 use Rattle.past_examples.proofs.WholeCalls.{alone, are_replies, in_order, one_write, replied, whole}
@@ -78,6 +79,41 @@ calls_in_order within = in_order drained_run within refl refl (
             }) (lit≤ tt) (lit≤ tt),
         (
           whole drained_run within (call_of 4 (Verb.Read 0)) (new_read within) tt (lit≤ tt),
+          tt,
+        ),
+      ),
+    ),
+  ),
+)
+
+-- the last read where it has no reply
+last_begun : (within : AreWithinLimits) → IsBegun begun_run.contents (channel_of begun_run within ∷ []) (call_of 4 (Verb.Read 0))
+last_begun within = record {
+  on_channels =
+      All-from_recursion (IsBegunOn begun_run.contents 1 (call_of 4 (Verb.Read 0))) (enumerate_from 0 (channel_of begun_run within ∷ []))
+      (record { rest = []; begins = new_read within }, tt);
+  few = tt;
+  one_fault = lit≤ tt;
+  are_left = refl;
+}
+
+pub begun_in_order : IsInOrder begun_run
+begun_in_order within = in_order begun_run within refl refl (
+  whole begun_run within (call_of 0 (Verb.Write 0 (Content.Listed (9 ∷ [])))) (one_write refl refl) tt (lit≤ tt),
+  (
+    whole begun_run within (call_of 1 (Verb.Age 0 1 0 150)) refl tt (lit≤ tt),
+    (
+      whole begun_run within (call_of 2 (Verb.Read 0)) (aged_read within) tt (lit≤ tt),
+      (
+        whole begun_run within (call_of 3 (Verb.Drain 4))
+            (record {
+              refreshes = steps_in 3 drained_run ∷ [];
+              are_steps = refl;
+              each = All-from_recursion (IsSomeRefresh (ladder_on drained_run within)) (steps_in 3 drained_run ∷ []) (record { row = 0; is_refresh = the_refresh within }, tt);
+              faultless = refl;
+            }) (lit≤ tt) (lit≤ tt),
+        (
+          last_begun within,
           tt,
         ),
       ),

@@ -6,11 +6,13 @@ use Rattle.std.specs.Prelude.{IsTrue}
 use Rattle.std.specs.List.{list_all}
 use Rattle.ssd_geo.specs.Noise.{noise_word}
 use Rattle.ssd_histories.specs.CallSteps.{CallStep}
-use Rattle.ssd_histories.specs.CallsInOrder.{is_of_call, never_fall, steps_on}
+use Rattle.ssd_histories.specs.CallsInOrder.{IsBegun, is_of_call, never_fall, steps_on}
 use Rattle.ssd_histories.specs.HistoryExamples.{tag_of}
 use Rattle.ssd_histories.specs.SerialHistory.{is_hint}
 use Rattle.ssd_geo.specs.declared.reply.Reply.{Reply}
-use Rattle.past_examples.specs.RunExamples.{IsOutOfOrder, LacksReplies, entry_of_earlier, two_unanswered, unknown_call, wrong_rung}
+use Rattle.ssd_geo.specs.declared.trace.Verb.{Verb}
+use Rattle.past_examples.specs.RunExamples.{IsOutOfOrder, LacksReplies, entry_of_earlier, left_open, two_unanswered, unknown_call, wrong_rung}
+use Rattle.past_examples.specs.WorkedRuns.{call_of}
 use Rattle.past_examples.proofs.WholeCalls.{HasReply, IsMade, channels}
 
 -- the first read's entries give data of rung 1
@@ -38,3 +40,9 @@ two_unanswered_fails within order =
     let each = recursion_from_All (IsMade two_unanswered within) two_unanswered.calls order.made in
     let none = recursion_from_All (λ run. steps_on (tag_of 0 4) run ≡ []) (channels two_unanswered within) each.1.1.1.1.0 in
     false≢true (ap has_none none.0)
+
+pub left_open_fails : IsOutOfOrder left_open
+left_open_fails within order =
+    let each = recursion_from_All (IsMade left_open within) left_open.calls order.made in
+    let begun : IsBegun left_open.contents (channels left_open within) (call_of 4 (Verb.Read 0)) = each.1.1.1.1.0 in
+    false≢true begun.are_left

@@ -20,7 +20,7 @@ empty_rows =
     ∷ step 0 0 (Kind.Look 2 Row.Empty false)
     ∷ []
 
--- the same, the pages in the other order
+-- the row of the page that came last is looked at first
 abbrev pub newest_first : List Entry
 newest_first = step 0 0 (Kind.Look 2 Row.Empty false) ∷ []
 

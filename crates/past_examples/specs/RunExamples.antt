@@ -136,6 +136,13 @@ two_unanswered = record drained_run { replies = take 3 drained_run.replies }
 abbrev pub entry_of_earlier : WorkedRun
 entry_of_earlier = record drained_run { history = take 11 drained_history ++ step 0 2 (Kind.Look 1 Row.Empty false) ∷ drop 11 drained_history }
 
+-- the last read has no reply, but all of its entries; and it has its look and a sense, and no leave
+abbrev pub begun_run : WorkedRun
+begun_run = record drained_run { replies = take 4 drained_run.replies }
+
+abbrev pub left_open : WorkedRun
+left_open = record drained_run { replies = take 4 drained_run.replies; history = take 13 drained_history }
+
 -- a run doesn't have the replies of its calls, and its calls aren't in order
 abbrev pub LacksReplies : WorkedRun → Type 0
 LacksReplies worked =

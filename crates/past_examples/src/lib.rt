@@ -18,9 +18,9 @@ pub use collect_examples::{
 pub use count_examples::{example_counts, example_no_counts};
 pub use drain_examples::{example_drains, example_no_drains};
 pub use hint_examples::{example_hints, example_queue};
-pub use refresh_examples::{example_no_refreshes, example_refreshes, refreshed_histories};
+pub use refresh_examples::{example_no_refreshes, example_refreshes, lost_page};
 pub use run_examples::{
-    run_on_a_worn_channel, run_with_a_collect, run_with_a_collection, run_with_a_drain,
+    begun_call, run_on_a_worn_channel, run_with_a_collect, run_with_a_collection, run_with_a_drain,
     run_with_a_fault, run_with_a_weak_die, run_with_an_idle_collect, run_with_another_pick,
     runs_that_just_miss,
 };

@@ -2,12 +2,10 @@
 ghost use Rattle.past_examples.specs.RefreshExamples.{IsCopyIn, IsNoRefreshIn, IsReadIn, IsRefreshIn, drained_run, lost_run};
 ghost use Rattle.past_examples.specs.WorkedRuns.{IsLawfulRun};
 
-/// The two histories are lawful: a page is read at the second level, moved by a drain and read at the first; and a page that
-/// no sense finds is refreshed in vain and then condemned.
+/// The history is lawful in which a page that no sense finds is refreshed in vain and then condemned.
 #[tactic(auto, unfolding(ssd_geo::specs::Noise::noise_word))]
-pub fn refreshed_histories()
-    ensures drained { IsLawfulRun drained_run }
-    ensures lost { IsLawfulRun lost_run }
+pub fn lost_page()
+    ensures { IsLawfulRun lost_run }
 {}
 
 /// A refresh moves a page that was recovered, and does nothing between the senses and the leave of one that wasn't.

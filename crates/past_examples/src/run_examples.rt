@@ -1,6 +1,6 @@
 //! Whole runs: that they are lawful, that their calls are in order and served one after the other, and that each has its reply.
 ghost use Rattle.past_examples.specs.RefreshExamples.{drained_run};
-ghost use Rattle.past_examples.specs.RunExamples.{IsOutOfOrder, LacksReplies, collected_run, entry_of_earlier, failed_run, faulted_run, freed_run, idle_run, two_unanswered, unfit_run, unknown_call, worn_run, wrong_rung};
+ghost use Rattle.past_examples.specs.RunExamples.{IsOutOfOrder, LacksReplies, begun_run, collected_run, entry_of_earlier, failed_run, faulted_run, freed_run, idle_run, left_open, two_unanswered, unfit_run, unknown_call, worn_run, wrong_rung};
 ghost use Rattle.past_examples.specs.WorkedRuns.{HasReplies, IsInOrder, IsLawfulRun, IsServedAlone};
 
 /// A write that collects the superblock with the most garbage: its steps are a round and the write.
@@ -75,11 +75,18 @@ pub fn run_with_a_weak_die()
     ensures replies { HasReplies failed_run }
 {}
 
+/// Calls are in order also where an actor's last call has no reply and was begun.
+pub fn begun_call()
+    ensures { IsInOrder begun_run }
+{}
+
 /// What just misses, on the run with a drain: a reply that tells of another rung; an entry of a call that isn't in the trace;
-/// entries of a call after one that wasn't answered; and an entry of an earlier call after those of a later one.
+/// entries of a call after one that wasn't answered; a call that was begun and whose look has no leave; and an entry of an
+/// earlier call after those of a later one.
 pub fn runs_that_just_miss()
     ensures rung { LacksReplies wrong_rung }
     ensures unknown { IsOutOfOrder unknown_call }
     ensures unanswered { IsOutOfOrder two_unanswered }
+    ensures not_left { IsOutOfOrder left_open }
     ensures earlier { IsOutOfOrder entry_of_earlier }
 {}
