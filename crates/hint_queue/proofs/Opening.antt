@@ -90,14 +90,18 @@ deals id dealing low items views kept at =
     let after : Standing = dealt_now k.now dealing.from fresh in
     let left : View = deal_left (Deals dealing) in
     let right : View = deal_right (Deals dealing) in
-    let new : Fits after fresh right = (record {
-      passes = fits.passes;
-      pages = fits.pages;
-      below = below;
-      seat_is = new_seat k.now id dealing.from fresh mine.seat_is;
-      pushed = mine.pushed;
-      taken = mine.taken;
-    }, tt, tt) in
+    let new : Fits after fresh right = (
+      record {
+        passes = fits.passes;
+        pages = fits.pages;
+        below = below;
+        seat_is = new_seat k.now id dealing.from fresh mine.seat_is;
+        pushed = mine.pushed;
+        taken = mine.taken;
+      },
+      tt,
+      tt,
+    ) in
     let old = each_set (Fits after) views id left
     (record {
       passes = fits.passes;

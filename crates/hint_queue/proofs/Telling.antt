@@ -209,13 +209,16 @@ settles slots id word me s k _ at _ =
             (fits_more k.total s.views (set s.views id me.0) least me.0 mine)
             (λ seat tally apart there. fits_more k.total s.views (set s.views id me.0) least tally (k.each_seat seat tally there));
       },
-      (refl, λ some_share all.
-      let total : me.0.total ≡ k.total = ⊎_elim (λ (t : me.0.share ≡ 0). absurd (omega arith)) (λ (t : me.0.total ≡ k.total). t) mine.total in
-      let whole = k.shares in
-      let most : sum_by (λ tally. tally.share) s.views ≤ me.0.share = omega (arith, whole, total, all) in
-      below_more (λ w. all_times w s.views) (λ w. times w me.0.told)
-          (λ w. let e = all_told w s.views id me.0 at most (λ seat tally there. (k.each_seat seat tally there).tells) in omega (arith, e))
-          me.0.seen mine.seen),
+      (
+        refl,
+        λ some_share all.
+            let total : me.0.total ≡ k.total = ⊎_elim (λ (t : me.0.share ≡ 0). absurd (omega arith)) (λ (t : me.0.total ≡ k.total). t) mine.total in
+            let whole = k.shares in
+            let most : sum_by (λ tally. tally.share) s.views ≤ me.0.share = omega (arith, whole, total, all) in
+            below_more (λ w. all_times w s.views) (λ w. times w me.0.told)
+            (λ w. let e = all_told w s.views id me.0 at most (λ seat tally there. (k.each_seat seat tally there).tells) in omega (arith, e))
+            me.0.seen mine.seen,
+      ),
     )
 
 -- a seat that told nothing and found nothing

@@ -42,10 +42,11 @@ impl Model for Hints {
     ghost Value = { QueueState };
 
     ghost view = { λ h. record {
-        queue = h.queue.table.shared.table_id;
-        counts = h.counts.shared.table_id;
-        passes = h.passes;
-        pages = h.pages } };
+      queue = h.queue.table.shared.table_id;
+      counts = h.counts.shared.table_id;
+      passes = h.passes;
+      pages = h.pages;
+    } };
 
     ghost invariant = { λ h. (ruled_capacity h.queue ≡ 256) × (h.counts.shared.table_id.words ≡ 33) × (1 ≤ h.passes) × (h.passes ≤ 32) };
 }
@@ -59,11 +60,7 @@ struct Whole {
 
 impl Hints {
     /// An empty queue of pages below a bound, and its passes in the order of their numbers.
-    pub fn new(
-        alloc: Global,
-        passes: u32,
-        pages: u32,
-    ) -> Result<(Hints, Vec<HintPass>), Memory>
+    pub fn new(alloc: Global, passes: u32, pages: u32) -> Result<(Hints, Vec<HintPass>), Memory>
         requires some { 1 ≤ passes }
         requires few { passes ≤ 32 }
         ensures queue { IfOk result (λ made. (made.0.passes ≡ passes) × (made.0.pages ≡ pages)) }
@@ -154,7 +151,14 @@ impl Hints {
         }
         // Who took one of its pages may not have told so yet.
         let word = seats.number as usize + 1;
-        wait(rt, counts, &mut seats.teller, word, seats.pushes, seats.pushes);
+        wait(
+            rt,
+            counts,
+            &mut seats.teller,
+            word,
+            seats.pushes,
+            seats.pushes,
+        );
         (HintPass::of(seats), None)
     }
 
@@ -171,7 +175,9 @@ impl Hints {
         } = whole;
         let seats = pass.into_seats();
         self.queue.absorb::<Gather>(&mut place, seats.place);
-        self.counts.shared.join_seat::<Unite>(&mut teller, seats.teller);
+        self.counts
+            .shared
+            .join_seat::<Unite>(&mut teller, seats.teller);
         Whole { place, teller }
     }
 

@@ -60,7 +60,7 @@ pub fn take<R: Wait>(rt: &R, queue: &Queue, place: &mut Place) -> Option<Noted>
     ensures seat { IsSamePass place.old place.new }
     ensures answer { MatchOption result ((view place.new ≡ view place.old) × Held 0 (Waiting (view place.old)))
         (λ noted. (view place.new ≡ Has (taken_part (part_in (view place.old)) noted ∷ []))
-            × (noted.page < (part_in (view place.old)).pages) × (noted.by < (part_in (view place.old)).passes)) }
+        × (noted.page < (part_in (view place.old)).pages) × (noted.by < (part_in (view place.old)).passes)) }
 {
     queue.pop_as::<Take, R>(rt, place)
 }
@@ -78,7 +78,14 @@ pub fn tell(counts: &Counts, teller: &mut Teller, word: usize)
 }
 
 /// Waits until a word of the counts has a value in this range.
-pub fn wait<R: Wait>(rt: &R, counts: &Counts, teller: &mut Teller, word: usize, least: u64, most: u64)
+pub fn wait<R: Wait>(
+    rt: &R,
+    counts: &Counts,
+    teller: &mut Teller,
+    word: usize,
+    least: u64,
+    most: u64,
+)
     requires words { counts.now.table_id.words ≡ 33 }
     requires table { teller.old.table_id ≡ counts.now.table_id }
     requires word { word < 33 }

@@ -128,7 +128,10 @@ fn pages_of_each_pass_come_in_its_order(rt: HostRuntime) -> Result<(), Fail> {
     assert_eq!(rt; watch.begun.load(Ordering::SeqCst), 32);
     assert!(rt; 256 <= pushed && pushed <= 1280, "{pushed} pages");
     assert_eq!(rt; watch.taken.load(Ordering::SeqCst), pushed);
-    assert_eq!(rt; watch.taken_sum.load(Ordering::SeqCst), watch.pushed_sum.load(Ordering::SeqCst));
+    assert_eq!(rt;
+        watch.taken_sum.load(Ordering::SeqCst),
+        watch.pushed_sum.load(Ordering::SeqCst)
+    );
     assert_eq!(rt; watch.early.load(Ordering::SeqCst), 0);
     Ok(())
 }
