@@ -9,7 +9,7 @@ use std::test::Fail;
 // superblocks.
 fn head_with(alloc: Global, channels: u8, bad: &[(u8, u16)]) -> Result<ImageHead, Fail> {
     Ok(ImageHead {
-        shape: Shape::new(channels, 3, 4, 2, 64, 3, 6, 8, 4)?,
+        shape: Shape::new(1, channels, 3, 4, 2, 64, 3, 6, 8, 4)?,
         read_levels: Items::new(vec![in alloc; 0]?),
         iterations: 8,
         law: CellLaw {
