@@ -5,6 +5,7 @@ use Rattle.std.specs.List.{list_any}
 use Rattle.std.proofs.lemmas.Bool.Decides.{nat_tests}
 use Rattle.std.proofs.lemmas.List.{get_or-replicate, length-replicate}
 use Rattle.std.proofs.lemmas.Option.{slice_get_past}
+use Rattle.ssd_geo.specs.BlockCells.{blank_cells, BlockCells}
 use Rattle.ssd_geo.specs.Limits.{page_cells_of}
 use Rattle.ssd_geo.specs.Shape.{sizes_of}
 use Rattle.ssd_histories.specs.Blocks as Blocks
@@ -13,7 +14,7 @@ use Rattle.ssd_histories.specs.PastBlocks.{block_before, blocks_of, state_of}
 use Rattle.ssd_histories.specs.PastPages.{levels_in, running_sum, stored_in_image, sum_in_image, sum_of_open}
 use Rattle.ssd_histories.specs.Ranges.{has_place}
 use Rattle.ssd_histories.specs.Standing.{IsStart}
-use Rattle.ssd_histories.specs.Start.{BlockCells, Start, blank_cells, cells_at, empty_levels}
+use Rattle.ssd_histories.specs.Start.{Start, cells_at_start, empty_levels}
 use Rattle.ssd_histories.specs.States.{is_frontier}
 use Rattle.ssd_geo.specs.StripeLaws.{IsPlace}
 use Rattle.ssd_geo.specs.StripeSum.{zero_word}
@@ -114,7 +115,7 @@ blank_state base = record {
   sum = base.sum;
 }
 
-blank_at : (base : ChannelBase) (limit : ℕ) (place : Place) → IsTrue (has_place base.shape place) → cells_at (blank_start base limit) place.die place.sb ≡ blank_cells
+blank_at : (base : ChannelBase) (limit : ℕ) (place : Place) → IsTrue (has_place base.shape place) → cells_at_start (blank_start base limit) place.die place.sb ≡ blank_cells
 blank_at base limit place range =
     let within : IsPlace base.shape.dies base.shape.superblocks base.shape.pages place = place_in_range base.shape place range in
     ap {B = BlockCells} (λ (die : List BlockCells). get_or die place.sb blank_cells)

@@ -14,7 +14,8 @@ use Rattle.ssd_histories.specs.PastRows.{row_of, rows_of}
 use Rattle.ssd_histories.specs.Ranges.{has_place, has_row, has_slot}
 use Rattle.ssd_histories.specs.SerialCalls.{entry_of}
 use Rattle.ssd_geo.specs.Stripe.{is_closed, stripe_of_index}
-use Rattle.ssd_histories.specs.WeakDies.{dies_of_program, is_listed, is_none_weak, is_weak}
+use Rattle.ssd_histories.specs.WeakDies.{dies_of_program, is_none_weak, is_weak}
+use Rattle.ssd_geo.specs.WeakBlocks.{makes_weak}
 use Rattle.ssd_geo.specs.declared.base.BlockBase.{BlockBase}
 use Rattle.ssd_geo.specs.declared.base.ChannelBase.{ChannelBase}
 use Rattle.ssd_geo.specs.declared.entry.Entry.{Entry}
@@ -105,7 +106,7 @@ pub none_weak_listed : (base : ChannelBase) (past : List Entry) (sb : ℕ) (dies
 none_weak_listed base past sb dies none = ap {B = Bool} (λ (b : Bool). not b) (none_of dies)
   where
     no_die : (die : ℕ) → is_weak base past sb die ≡ false
-    no_die die = ap {B = Bool} (list_any (is_listed base.channel die sb (erases_of base past sb))) none
+    no_die die = ap {B = Bool} (list_any (makes_weak base.channel die sb (erases_of base past sb))) none
 
     none_of : (dies : List ℕ) → list_any (is_weak base past sb) dies ≡ false
     none_of [] = refl

@@ -2,6 +2,7 @@
 -- what it began with. So it is seen by a relation: it stands for a start and contents where its history is lawful from
 -- that start with these contents, and all that it keeps is what the definitions give at the end of that history.
 use Rattle.std.specs.Prelude.{ℕ, ◌≡◌, IsTrue, List, [], replicate, slice_index_or, ℤ, None}
+use Rattle.ssd_geo.specs.BlockCells.{blank_cells}
 use Rattle.ssd_geo.specs.Coding.{coding_of}
 use Rattle.ssd_histories.specs.History.{open_looks}
 use Rattle.ssd_geo.specs.Noise.{number_of_page}
@@ -10,7 +11,7 @@ use Rattle.ssd_histories.specs.PastPages.{levels_of, running_sum}
 use Rattle.ssd_histories.specs.PastRows.{rows_of}
 use Rattle.ssd_histories.specs.Ranges.{has_place}
 use Rattle.ssd_histories.specs.Standing.{IsPastOf, IsStart}
-use Rattle.ssd_histories.specs.Start.{Start, blank_cells}
+use Rattle.ssd_histories.specs.Start.{Start}
 use Rattle.ssd_geo.specs.declared.base.BlockBase.{BlockBase}
 use Rattle.ssd_geo.specs.declared.base.ChannelBase.{ChannelBase}
 use Rattle.ssd_geo.specs.declared.cell_law.CellLaw.{CellLaw}

@@ -6,8 +6,9 @@ use Rattle.std.proofs.lemmas.Bool.Decides.{leb_tells}
 use Rattle.std.proofs.Math.Nat.{mul-le-mul_left}
 use borrow.Rule.Slice.PartMut.{put_mid}
 use Rattle.std.specs.List.{range_with_len}
+use Rattle.ssd_geo.specs.BlockCells.{BlockCells}
 use Rattle.ssd_geo.specs.Cells.{aged_level}
-use Rattle.onfi_cmd.specs.DieState.{BlockCells, with_aged}
+use Rattle.onfi_cmd.specs.DieState.{with_aged}
 use Rattle.die_model.specs.Stored.{Stored, kept_page, kept_block, kept_blocks, IsKept}
 use Rattle.die_model.proofs.KeptLemmas.{map-range_same, map-range_set, page_below, page_above, page_inside, block_below, block_above, page_ends, cells_at-kept_blocks, block_path, stored_after, pages_fit, length-put_mid, put_back}
 

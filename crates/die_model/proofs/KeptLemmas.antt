@@ -10,10 +10,11 @@ use Rattle.std.proofs.Math.Nat.{mul-le-mul_left}
 use Rattle.std.proofs.Math.Seq.{drop-append-add}
 use borrow.Rule.Slice.PartMut.{put_mid}
 use Rattle.std.specs.List.{range_with_len}
+use Rattle.ssd_geo.specs.BlockCells.{blank_cells, BlockCells, cells_at}
 use Rattle.ssd_geo.specs.Cells.{aged_level, fresh_level, fresh_levels}
 use Rattle.ssd_geo.specs.Noise.{start_of_program}
 use Rattle.ssd_geo.specs.declared.cell_law.CellLaw.{CellLaw}
-use Rattle.onfi_cmd.specs.DieState.{BlockCells, blank_cells, cells_at, programmed_in, with_erases, with_erased, with_page}
+use Rattle.onfi_cmd.specs.DieState.{programmed_in, with_erases, with_erased, with_page}
 use Rattle.die_model.specs.Stored.{Stored, kept_page, kept_pages, kept_block, kept_blocks, IsKept}
 
 -- two functions that agree below n make one list

@@ -6,9 +6,10 @@ use Rattle.std.proofs.Math.Nat.{mul-le-mul_left}
 use Rattle.std.proofs.lemmas.Grind.{same_number_lists}
 use Rattle.std.proofs.Math.ListN.{get_or-map, get_or-eq_default}
 use Rattle.std.specs.List.{range_with_len}
+use Rattle.ssd_geo.specs.BlockCells.{BlockCells, cells_at}
 use Rattle.ssd_geo.specs.Cells.{sensed_bit, sensed}
 use Rattle.onfi_cmd.specs.Cycles.{value_of}
-use Rattle.onfi_cmd.specs.DieState.{BlockCells, cells_at, programmed_in, levels_of_page, erased_levels}
+use Rattle.onfi_cmd.specs.DieState.{programmed_in, levels_of_page, erased_levels}
 use Rattle.onfi_cmd.specs.declared.plan.DiePlan.{DiePlan}
 use Rattle.onfi_cmd.specs.declared.cycle.Cycle.{Cycle}
 use Rattle.onfi_cmd.specs.declared.cycle.Cycle.TheVariants.{Byte}

@@ -1,6 +1,7 @@
 -- What do contracts see of a simulated die? It tells its blocks, and it never fails: both counts are 0.
 use Rattle.std.specs.Prelude.{ℕ, Some, None, Bool, if◌then◌else◌, List, [], ℤ, pos}
-use Rattle.onfi_cmd.specs.DieState.{BlockCells, DieState, status_failed, status_passed}
+use Rattle.ssd_geo.specs.BlockCells.{BlockCells}
+use Rattle.onfi_cmd.specs.DieState.{DieState, status_failed, status_passed}
 use Rattle.onfi_cmd.specs.declared.plan.DiePlan.{DiePlan}
 
 -- the status byte of an operation that answered FAIL or didn't

@@ -2,7 +2,7 @@
 -- programmed or not; beside them stand the number of programmed pages and the erases of each block.
 use Rattle.std.specs.Prelude.{◌≡◌, ℕ, ◌+◌, ◌*◌, ◌<◌, ◌≤◌, List, map, length, take, drop, slice_index, ℤ}
 use Rattle.std.specs.List.{range_with_len}
-use Rattle.onfi_cmd.specs.DieState.{BlockCells}
+use Rattle.ssd_geo.specs.BlockCells.{BlockCells}
 
 -- what a store stands for: its blocks, with how many pages a block and how many cells a page has
 pub record Stored : Type 0 where

@@ -1,7 +1,8 @@
 ghost use Rattle.std.specs.Prelude.{◌≡◌, ◌+◌, ◌*◌, ◌-◌, ◌^◌, ◌<◌, ◌⊎◌, IfOk, IsOkAnd, Some, [], drop, false, length, map, pos, take, vec_len};
+ghost use Rattle.ssd_geo.specs.BlockCells.{cells_at};
 ghost use Rattle.onfi_cmd.specs.Cycles.{bytes_of_op, value_of};
 ghost use Rattle.onfi_cmd.specs.DieCalls.{CanDo, HasOutcome, IsInShape, IsPlan};
-ghost use Rattle.onfi_cmd.specs.DieState.{blank_blocks, cells_at, cells_of_page, changes_unless_weak, levels_of_page, outcome_of, programmed_in, programmed_levels, status_failed, status_passed, with_erased, with_page};
+ghost use Rattle.onfi_cmd.specs.DieState.{blank_blocks, cells_of_page, changes_unless_weak, levels_of_page, outcome_of, programmed_in, programmed_levels, status_failed, status_passed, with_erased, with_page};
 ghost use Rattle.onfi_cmd.specs.Reading.{operation_of};
 ghost use Rattle.ssd_geo.specs.Cells.{sensed};
 ghost use Rattle.die_model.specs.Simulated.{mounted_state, status_byte};

@@ -1,6 +1,7 @@
 ghost use Rattle.std.specs.Prelude.{◌≡◌, ℕ, ◌+◌, ◌-◌, ◌*◌, ◌^◌, ◌<◌, ◌≤◌, ◌++◌, List, ℤ, IfOk, length, replicate, map, take, drop, slice_index_or};
+ghost use Rattle.ssd_geo.specs.BlockCells.{blank_cells, cells_at};
 ghost use Rattle.ssd_geo.specs.Cells.{IsCellLaw, aged_level, fresh_levels};
-ghost use Rattle.onfi_cmd.specs.DieState.{blank_cells, cells_at, programmed_in, with_aged, with_erased, with_erases, with_page};
+ghost use Rattle.onfi_cmd.specs.DieState.{programmed_in, with_aged, with_erased, with_erases, with_page};
 ghost use Rattle.die_model.specs.Stored.{IsKept, Stored, kept_blocks};
 
 use cell_law::{age_cell, fresh_into};

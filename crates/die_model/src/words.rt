@@ -2,7 +2,8 @@ ghost use Rattle.std.specs.Prelude.{◌≡◌, ◌+◌, ◌-◌, ◌*◌, length
 ghost use Rattle.ssd_geo.specs.Cells.{sensed};
 ghost use Rattle.onfi_cmd.specs.Cycles.{value_of};
 ghost use Rattle.onfi_cmd.specs.DieCalls.{IsInShape, IsPlan};
-ghost use Rattle.onfi_cmd.specs.DieState.{is_weak, makes_weak, number_in_drive};
+ghost use Rattle.onfi_cmd.specs.DieState.{is_weak, number_in_drive};
+ghost use Rattle.ssd_geo.specs.WeakBlocks.{makes_weak};
 
 use onfi_cmd::{Cycle, DiePlan};
 use ssd_geo::Weak;
@@ -53,7 +54,7 @@ pub(crate) fn is_weak_at(plan: &DiePlan, sb: u16, erases: u32) -> bool
 }
 
 fn makes_weak_at(plan: &DiePlan, sb: u16, erases: u32, weak: Weak) -> bool
-    ensures { result ≡ makes_weak plan.now sb erases weak }
+    ensures { result ≡ makes_weak plan.now.channel plan.now.die sb erases weak }
 {
     weak.channel == plan.channel && weak.die == plan.die && weak.sb == sb && weak.from <= erases
 }

@@ -3,11 +3,12 @@
 use Rattle.std.specs.Prelude.{◌≡◌, ℕ, ◌-◌, ◌*◌, ◌^◌, ◌<◌, Option, Some, IfSome, OnSome, IsSomeAnd, is_some, Result, IfOk, IsOkAnd, OnOk, OnErr, IsErrOf, List, length, ℤ, pos}
 use Rattle.std.specs.Int.{w16}
 use Rattle.std.specs.Int.RustNames.{FitsSigned}
+use Rattle.ssd_geo.specs.BlockCells.{BlockCells, cells_at}
 use Rattle.ssd_geo.specs.Cells.{IsCellLaw}
 use Rattle.ssd_geo.specs.Faults.{NeverFell, Rose, HasCause}
 use Rattle.onfi_cmd.specs.Addresses.{block_of_row, page_of_row, params_of_level, read_level_address}
 use Rattle.onfi_cmd.specs.Cycles.{bytes_of_op}
-use Rattle.onfi_cmd.specs.DieState.{BlockCells, DieState, blank_blocks, cells_at, programmed_in, cells_of_page, status_passed, Outcome, outcome_of}
+use Rattle.onfi_cmd.specs.DieState.{DieState, blank_blocks, programmed_in, cells_of_page, status_passed, Outcome, outcome_of}
 use Rattle.onfi_cmd.specs.Reading.{operation_of}
 use Rattle.onfi_cmd.specs.declared.cycle.Cycle.{Cycle}
 use Rattle.onfi_cmd.specs.declared.op.Op.{Op}

@@ -2,22 +2,17 @@
 -- in rising order (Micheloni, Inside NAND Flash Memories), so its programmed pages are its first ones. That a program
 -- or an erase that answers FAIL changes nothing, and that a page is programmed once between erases, are this
 -- project's own.
-use Rattle.std.specs.Prelude.{ℕ, ◌+◌, ◌*◌, ◌==◌, nat_le, ◌&&◌, Bool, if◌then◌else◌, Option, List, [], ◌∷◌, ◌++◌, map, length, replicate, slice_index_or, slice_set, ℤ, pos}
-use Rattle.std.specs.List.{list_any}
+use Rattle.std.specs.Prelude.{ℕ, ◌+◌, Bool, if◌then◌else◌, Option, List, [], ◌∷◌, ◌++◌, map, length, replicate, slice_index_or, slice_set, ℤ, pos}
+use Rattle.ssd_geo.specs.BlockCells.{BlockCells, blank_cells, cells_at}
 use Rattle.ssd_geo.specs.Cells.{aged_level, fresh_levels, sensed}
 use Rattle.ssd_geo.specs.Limits.{page_cells_of}
 use Rattle.ssd_geo.specs.Noise.{number_of_page}
 use Rattle.ssd_geo.specs.Shape.{sizes_of}
-use Rattle.ssd_geo.specs.declared.weak.Weak.{Weak}
+use Rattle.ssd_geo.specs.WeakBlocks.{is_weak_in}
 use Rattle.onfi_cmd.specs.Addresses.{block_of_row, page_of_row, params_of_level, level_of_params}
 use Rattle.onfi_cmd.specs.declared.op.Op.{Op}
 use Rattle.onfi_cmd.specs.declared.op.Op.TheVariants.{Read, Program, Erase, Status, Reset, SetFeatures, GetFeatures}
 use Rattle.onfi_cmd.specs.declared.plan.DiePlan.{DiePlan}
-
--- a block of a die: the levels of its programmed pages, in order from page 0, and how often it was erased
-pub record BlockCells : Type 0 where
-  pub pages : List (List ℤ)
-  pub erases : ℕ
 
 -- what contracts see of a die: the plan of its last mount, its blocks where they are told, the read level, the status
 -- byte of its last operation other than Read Status, and the two counts of its faults
@@ -29,17 +24,9 @@ pub record DieState : Type 0 where
   pub work_count : ℕ
   pub load_count : ℕ
 
--- a block without programmed pages that was never erased
-abbrev pub blank_cells : BlockCells
-blank_cells = record { pages = []; erases = 0 }
-
 -- the blocks of a blank die
 abbrev pub blank_blocks : DiePlan → List BlockCells
 blank_blocks plan = replicate plan.shape.superblocks blank_cells
-
--- the block with this number
-abbrev pub cells_at : List BlockCells → ℕ → BlockCells
-cells_at blocks sb = slice_index_or blocks sb blank_cells
 
 -- how many pages of a block are programmed
 abbrev pub programmed_in : List BlockCells → ℕ → ℕ
@@ -76,14 +63,9 @@ with_aged erased blocks sb amount =
     slice_set blocks sb
     (record { pages = map (map (aged_level erased amount)) (cells_at blocks sb).pages; erases = (cells_at blocks sb).erases })
 
--- whether an entry of a list of weak blocks makes a block weak at an erase count
-abbrev pub makes_weak : DiePlan → ℕ → ℕ → Weak → Bool
-makes_weak plan sb erases weak =
-    weak.channel == plan.channel && (weak.die == plan.die && (weak.sb == sb && nat_le weak.from erases))
-
 -- whether a block answers FAIL to programs and erases at an erase count
 abbrev pub is_weak : DiePlan → ℕ → ℕ → Bool
-is_weak plan sb erases = list_any (makes_weak plan sb erases) plan.weak
+is_weak plan sb erases = is_weak_in plan.weak plan.channel plan.die sb erases
 
 -- the number of a page of this die in the drive
 abbrev pub number_in_drive : DiePlan → ℕ → ℕ → ℕ

@@ -4,6 +4,7 @@ use Rattle.std.specs.Prelude.{IsTrue, ℤ}
 use Rattle.std.proofs.lemmas.Bool.{cases_lt}
 use Rattle.std.proofs.lemmas.List.{get_or-replicate, get_or_past, length-replicate}
 use Rattle.std.proofs.lemmas.List.Elements.{All-nil, All-replicate}
+use Rattle.ssd_geo.specs.BlockCells.{blank_cells, BlockCells}
 use Rattle.ssd_geo.specs.Bits.{bit_sum}
 use Rattle.ssd_geo.specs.BaseMatrix.{IsAccepted, layer_of}
 use Rattle.ssd_histories.specs.Blocks.{blank_block, block_at}
@@ -16,7 +17,7 @@ use Rattle.ssd_histories.specs.PageMap.{names_slot, names_within, row_at}
 use Rattle.ssd_geo.specs.PageWord.{code_in}
 use Rattle.ssd_geo.specs.Shape.{HasSizes, sizes_of}
 use Rattle.ssd_histories.specs.Standing.{HasFields, IsDueBlock, IsStart, names_used}
-use Rattle.ssd_histories.specs.Start.{BlockCells, Start, blank_cells, cells_at}
+use Rattle.ssd_histories.specs.Start.{Start, cells_at_start}
 use Rattle.ssd_geo.specs.Superblock.{due_pages}
 use Rattle.ssd_geo.specs.declared.base.BlockBase.{BlockBase}
 use Rattle.ssd_geo.specs.declared.row.Row.{Row}
@@ -78,7 +79,7 @@ small_fields within = record {
   weak = refl;
 }
 
-blank_at : (within : SmallLimits) (limit die sb : ℕ) → die < 3 → sb < 4 → cells_at (start_of within limit) die sb ≡ blank_cells
+blank_at : (within : SmallLimits) (limit die sb : ℕ) → die < 3 → sb < 4 → cells_at_start (start_of within limit) die sb ≡ blank_cells
 blank_at within limit die sb low within_sb =
     ap {B = BlockCells} (λ (cells : List BlockCells). get_or cells sb blank_cells) (get_or-replicate 3 die (replicate 4 blank_cells) [] low)
     ∙ get_or-replicate 4 sb blank_cells blank_cells within_sb
@@ -89,8 +90,8 @@ small_due within limit die sb low below =
     let block = each_blank 4 sb in
     let none : due_pages 3 sb (block_at (replicate 4 blank_block) sb).used die ≡ 0 =
     ap {B = ℕ} (λ (b : BlockBase). due_pages 3 sb b.used die) block ∙ (due_pages_ends 3 sb 2 die (lit≤ tt)).none in
-    let count : length (cells_at (start_of within limit) die sb).pages ≡ 0 = ap {B = ℕ} (λ (c : BlockCells). length c.pages) cells in
-    let erased : (cells_at (start_of within limit) die sb).erases ≡ (block_at (replicate 4 blank_block) sb).erases =
+    let count : length (cells_at_start (start_of within limit) die sb).pages ≡ 0 = ap {B = ℕ} (λ (c : BlockCells). length c.pages) cells in
+    let erased : (cells_at_start (start_of within limit) die sb).erases ≡ (block_at (replicate 4 blank_block) sb).erases =
     ap {B = ℕ} (λ (c : BlockCells). c.erases) cells ∙ sym (ap {B = ℕ} (λ (b : BlockBase). b.erases) block) in
     record {
       at_least = omega (arith, none, count);

@@ -6,6 +6,7 @@ use Rattle.std.specs.Prelude.{◌≡◌, ⊤, IsTrue, true, ℕ, zero, suc, ◌+
 use Rattle.std.specs.List.{enumerate_from, list_any, list_all, range_with_len}
 use Rattle.std.specs.Option.{option_map_or}
 use Rattle.std.specs.Int.{w8, w16, w32, w64, to_le_bytes, from_le_bytes}
+use Rattle.ssd_geo.specs.BlockCells.{blank_cells, BlockCells}
 use Rattle.ssd_histories.specs.Blocks.{block_at, has_due_used, is_frontier_block, is_victim_block}
 use Rattle.ssd_geo.specs.Codewords.{failed_checks}
 use Rattle.ssd_formats.specs.Fields.{are_bytes, Rest, Fault, Reading, ◌>>=◌, field_or, number_or, number_field, passing, bytes_of_signed, is_any, is_below, level_fields}
@@ -15,7 +16,6 @@ use Rattle.ssd_geo.specs.Shape.{sizes_of}
 use Rattle.ssd_formats.specs.ImageHead.{IsHead, Head, head_bytes, matrix_of_head, read_head}
 use Rattle.ssd_formats.specs.InputFaults as faults
 use Rattle.ssd_histories.specs.PageMap.{names_slot}
-use Rattle.ssd_histories.specs.Start.{BlockCells, blank_cells}
 use Rattle.ssd_histories.specs.States.{is_bad, is_frontier, is_victim}
 use Rattle.ssd_geo.specs.StripeSum.{zero_word}
 use Rattle.ssd_geo.specs.Superblock.{slots_of, due_pages}

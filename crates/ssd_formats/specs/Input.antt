@@ -1,11 +1,11 @@
 -- What does a whole input give, an image and then a trace, and what is its first fault? And when has code read such a
 -- part? The definitions of formats give plain records; here they meet the types that the code has.
 use Rattle.std.specs.Prelude.{◌≡◌, ℕ, List, Result, Ok, Err}
+use Rattle.ssd_geo.specs.BlockCells.{BlockCells}
 use Rattle.ssd_formats.specs.Fields.{Rest, ◌>>=◌}
 use Rattle.ssd_formats.specs.ImageContents.{ChannelImage, IsBaseOf, cells_of_saved, read_channel, read_image}
 use Rattle.ssd_formats.specs.ImageHead.{Head, head_of, read_head}
 use Rattle.ssd_formats.specs.InputFaults.{ImageFault, TraceFault}
-use Rattle.ssd_histories.specs.Start.{BlockCells}
 use Rattle.ssd_formats.specs.Statuses.{Status, image, trace}
 use Rattle.ssd_formats.specs.TraceText.{read_trace}
 use Rattle.ssd_geo.specs.declared.base.ChannelBase.{ChannelBase}

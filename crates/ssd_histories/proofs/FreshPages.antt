@@ -22,7 +22,7 @@ use Rattle.ssd_geo.specs.Ladder.{LadderState}
 use Rattle.ssd_histories.specs.Lawful.{IsLawfulBy, IsLawfulKind, IsLawfulMove}
 use Rattle.ssd_histories.specs.Ranges.{has_slot, is_in_range}
 use Rattle.ssd_histories.specs.Room.{next_slot}
-use Rattle.ssd_histories.specs.Start.{Start, cells_at}
+use Rattle.ssd_histories.specs.Start.{Start, cells_at_start}
 use Rattle.ssd_geo.specs.Stripe.{is_last_of_stripe, parity_die, place_of_parity, place_of_slot, stripe_of_index}
 use Rattle.ssd_histories.proofs.FreshSlots.{due_below_parity, due_below_slot, not_parity, same_place, slot_die}
 use Rattle.ssd_geo.proofs.Stripes.{parity_die-lt, places_differ}
@@ -189,7 +189,7 @@ first_fresh coding start contents due sb lt good =
       slots = λ index le.
           let place : Place = place_of_slot start.base.shape.dies (slot_at sb index) in
           ap {B = Option StoredPage} (option_map stored_in_image)
-          (slice_get_past (cells_at start place.die sb).pages place.page
+          (slice_get_past (cells_at_start start place.die sb).pages place.page
           (omega (
             arith,
             due place.die sb (slot_die start.base.shape.dies sb index (two_dies start)) lt sound,
@@ -197,7 +197,7 @@ first_fresh coding start contents due sb lt good =
           )));
       parities = λ stripe lt_stripe.
           ap {B = Option StoredPage} (option_map stored_in_image)
-          (slice_get_past (cells_at start (parity_die start.base.shape.dies sb stripe) sb).pages stripe
+          (slice_get_past (cells_at_start start (parity_die start.base.shape.dies sb stripe) sb).pages stripe
           (omega (
             arith,
             due (parity_die start.base.shape.dies sb stripe) sb (parity_die-lt start.base.shape.dies sb stripe (two_dies start)) lt sound,

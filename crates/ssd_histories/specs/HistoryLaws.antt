@@ -1,5 +1,5 @@
 -- What holds of pasts, whatever they hold? Each law is the contract of a function without a body.
-use Rattle.std.specs.Prelude.{ℕ, ◌≡◌, ◌+◌, List, [], ◌∷◌, ◌++◌, length, slice_set, Option, Some, None}
+use Rattle.std.specs.Prelude.{ℕ, ◌≡◌, List, [], ◌∷◌, ◌++◌, length, slice_set, Option, Some, None}
 use Rattle.ssd_histories.specs.History.{history_of, past_of}
 use Rattle.ssd_geo.specs.Ladder.{LadderState}
 use Rattle.ssd_histories.specs.Lawful.{IsLawfulBy}

@@ -9,7 +9,7 @@ use Rattle.ssd_histories.specs.Blocks.{block_at, frontier_of}
 use Rattle.ssd_geo.specs.Coding.{Coding, word_bytes_in}
 use Rattle.ssd_geo.specs.Cells.{aged_level, fresh_levels, sensed}
 use Rattle.ssd_histories.specs.History.{look_of}
-use Rattle.ssd_geo.specs.Ladder.{LadderState, ladder_over, uncorrectable, word_recovered}
+use Rattle.ssd_geo.specs.Ladder.{LadderState, ladder_over, word_recovered}
 use Rattle.ssd_geo.specs.Noise.{number_of_page}
 use Rattle.ssd_histories.specs.PastBlocks.{blocks_of, erases_of, used_of}
 use Rattle.ssd_histories.specs.PastRows.{serial_of}
@@ -20,7 +20,6 @@ use Rattle.ssd_geo.specs.Stripe.{is_last_of_stripe, parity_die, place_of_parity,
 use Rattle.ssd_geo.specs.declared.base.ChannelBase.{ChannelBase}
 use Rattle.ssd_geo.specs.declared.entry.Entry.{Entry}
 use Rattle.ssd_geo.specs.declared.kind.Kind.{Kind}
-use Rattle.ssd_geo.specs.declared.look.Look.{Look}
 use Rattle.ssd_geo.specs.declared.place.Place.{Place}
 use Rattle.ssd_geo.specs.declared.slot.Slot.{Slot}
 use Rattle.ssd_geo.specs.declared.tag.Tag.{Tag}

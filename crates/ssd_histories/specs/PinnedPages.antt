@@ -10,7 +10,7 @@ use Rattle.ssd_histories.specs.Lawful.{IsLawfulBy}
 use Rattle.ssd_histories.specs.PastBlocks.{used_of}
 use Rattle.ssd_histories.specs.PastPages.{StoredPage, page_of, word_of_page}
 use Rattle.ssd_histories.specs.PlainMap.{past_at}
-use Rattle.ssd_histories.specs.Start.{Start, cells_at}
+use Rattle.ssd_histories.specs.Start.{Start, cells_at_start}
 use Rattle.ssd_histories.specs.States as States
 use Rattle.ssd_geo.specs.Superblock.{due_pages}
 use Rattle.ssd_geo.specs.declared.entry.Entry.{Entry}
@@ -23,7 +23,7 @@ abbrev pub HasDuePages : Start → Type 0
 HasDuePages start =
     (die sb : ℕ) → die < start.base.shape.dies → sb < start.base.shape.superblocks
     → States.is_bad (block_at start.base.blocks sb).state ≡ false
-    → length (cells_at start die sb).pages ≡ due_pages start.base.shape.dies sb (block_at start.base.blocks sb).used die
+    → length (cells_at_start start die sb).pages ≡ due_pages start.base.shape.dies sb (block_at start.base.blocks sb).used die
 
 -- a page that was programmed still is, with the same word
 pub record KeepsWord (before after : Option StoredPage) : Type 0 where

@@ -1,7 +1,7 @@
 -- Which histories stand where a serial run stopped in the middle of a call? The call's next entry found no room in its channel's
 -- history, so that entry and those after it are missing: with them it would be a whole call. A drain stops
 -- only before the look of a refresh, whose hint it has taken; the refreshes before that are whole.
-use Rattle.std.specs.Prelude.{ℕ, suc, ◌/◌, ◌%◌, ◌≡◌, false, IsTrue, List, [], ◌∷◌, ◌++◌, length, All, None}
+use Rattle.std.specs.Prelude.{ℕ, suc, ◌/◌, ◌%◌, ◌≡◌, false, IsTrue, List, ◌∷◌, ◌++◌, length, All, None}
 use Rattle.ssd_histories.specs.CallsInOrder.{AreReplies, ChannelRun, IsNotMade, OfRun, is_age_of, is_trim_of, ladder_in, reply_to}
 use Rattle.ssd_histories.specs.Copies.{IsRead, IsRefresh}
 use Rattle.ssd_histories.specs.HistoryRoom.{has_look_room, has_room_for}

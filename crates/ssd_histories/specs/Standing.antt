@@ -1,7 +1,7 @@
 -- What may a channel begin with, and which histories may it then have? A start is as an image gives it: the superblocks,
 -- rows and sum fit each other, and the dies have the pages that are due. A history of a start is lawful and follows the
 -- policy's view where that is told; and for each entry that tells of a failed call of a die, that die counted a fault.
-use Rattle.std.specs.Prelude.{ℤ, pos, neg_ℤ, int_le, int_lt, nat_le, ℕ, ◌≡◌, ◌^◌, ◌*◌, ◌-◌, ◌%◌, ◌≤◌, ◌<◌, ◌==◌, nat_lt, Bool, true, false, ◌&&◌, not, IsTrue, List, length, All, count_by, slice_index_or, Option, Some, None, option_map}
+use Rattle.std.specs.Prelude.{pos, neg_ℤ, int_le, int_lt, ℕ, ◌≡◌, ◌^◌, ◌-◌, ◌%◌, ◌≤◌, ◌<◌, ◌==◌, nat_lt, Bool, true, false, ◌&&◌, not, IsTrue, List, length, All, count_by, slice_index_or, Option, Some, None, option_map}
 use Rattle.std.specs.List.{list_all, list_any}
 use Rattle.ssd_geo.specs.Limits.{page_cells_of}
 use Rattle.ssd_geo.specs.Shape.{sizes_of}
@@ -17,7 +17,7 @@ use Rattle.ssd_histories.specs.Lawful.{IsLawful}
 use Rattle.ssd_geo.specs.Limits.{is_level, is_within}
 use Rattle.ssd_histories.specs.PageMap.{NameApart, NameWithin}
 use Rattle.ssd_histories.specs.PastBlocks.{slots_in}
-use Rattle.ssd_histories.specs.Start.{Start, cells_at}
+use Rattle.ssd_histories.specs.Start.{Start, cells_at_start}
 use Rattle.ssd_histories.specs.States as States
 use Rattle.ssd_geo.specs.StripeSum.{zero_word}
 use Rattle.ssd_geo.specs.Superblock.{due_pages}
@@ -48,15 +48,15 @@ names_used base _ = true
 -- a block of a superblock has the pages that are due: just these and the base's erases where the superblock isn't bad,
 -- and at least these where it is; each page has a level for each cell
 pub record IsDueBlock (start : Start) (die sb : ℕ) : Type 0 where
-  pub at_least : due_pages start.base.shape.dies sb (block_at start.base.blocks sb).used die ≤ length (cells_at start die sb).pages
-  pub at_most : length (cells_at start die sb).pages ≤ start.base.shape.pages
+  pub at_least : due_pages start.base.shape.dies sb (block_at start.base.blocks sb).used die ≤ length (cells_at_start start die sb).pages
+  pub at_most : length (cells_at_start start die sb).pages ≤ start.base.shape.pages
   pub exact :
       IsTrue (not (States.is_bad (block_at start.base.blocks sb).state))
-      → length (cells_at start die sb).pages ≡ due_pages start.base.shape.dies sb (block_at start.base.blocks sb).used die
+      → length (cells_at_start start die sb).pages ≡ due_pages start.base.shape.dies sb (block_at start.base.blocks sb).used die
   pub erases :
       IsTrue (not (States.is_bad (block_at start.base.blocks sb).state))
-      → (cells_at start die sb).erases ≡ (block_at start.base.blocks sb).erases
-  pub whole : All (λ levels. length levels ≡ page_cells_of (sizes_of start.base.shape)) (cells_at start die sb).pages
+      → (cells_at_start start die sb).erases ≡ (block_at start.base.blocks sb).erases
+  pub whole : All (λ levels. length levels ≡ page_cells_of (sizes_of start.base.shape)) (cells_at_start start die sb).pages
 
 -- whether a stripe of the base is open: the frontier's, with some of its slots used
 abbrev pub has_open_stripe : ChannelBase → Bool

@@ -1,22 +1,17 @@
 -- Which dies does a program or an erase use, and on which of them may it fail? A weak block answers FAIL while its
 -- erase count is at least the number that the image lists for it. Weak blocks are this project's own.
-use Rattle.std.specs.Prelude.{ℕ, ◌==◌, nat_le, Bool, false, ◌&&◌, ◌||◌, not, if◌then◌else◌, List, [], ◌∷◌}
+use Rattle.std.specs.Prelude.{ℕ, ◌==◌, Bool, false, ◌&&◌, ◌||◌, not, if◌then◌else◌, List, [], ◌∷◌}
 use Rattle.std.specs.List.{list_any, range_with_len}
 use Rattle.ssd_histories.specs.PastBlocks.{erases_of}
 use Rattle.ssd_geo.specs.Stripe.{is_last_of_stripe, parity_die, place_of_slot, stripe_of_index}
 use Rattle.ssd_geo.specs.declared.base.ChannelBase.{ChannelBase}
 use Rattle.ssd_geo.specs.declared.entry.Entry.{Entry}
 use Rattle.ssd_geo.specs.declared.slot.Slot.{Slot}
-use Rattle.ssd_geo.specs.declared.weak.Weak.{Weak}
-
--- whether the image lists a block of a channel as weak from so many erases on
-abbrev pub is_listed : ℕ → ℕ → ℕ → ℕ → Weak → Bool
-is_listed channel die sb erases weak =
-    weak.channel == channel && weak.die == die && weak.sb == sb && nat_le weak.from erases
+use Rattle.ssd_geo.specs.WeakBlocks.{is_weak_in}
 
 -- whether a die is weak in a superblock
 abbrev pub is_weak : ChannelBase → List Entry → ℕ → ℕ → Bool
-is_weak base past sb die = list_any (is_listed base.channel die sb (erases_of base past sb)) base.weak
+is_weak base past sb die = is_weak_in base.weak base.channel die sb (erases_of base past sb)
 
 -- the dies that a program of a slot uses, in order: the slot's own, and then the parity's with the last slot of a stripe
 abbrev pub dies_of_program : ℕ → Slot → List ℕ

@@ -5,6 +5,7 @@ use Rattle.std.proofs.lemmas.Bool.Decides.{nat_tests}
 use Rattle.std.proofs.lemmas.List.FromFn.{length-range_with_len}
 use Rattle.std.proofs.lemmas.List.Elements.{All-nil, All-cons}
 use Rattle.std.proofs.lemmas.Simd.{map-map}
+use Rattle.ssd_geo.specs.BlockCells.{blank_cells, BlockCells}
 use Rattle.chan_calls.specs.Workers.{WorkerState, WorksFor}
 use Rattle.chan_state.specs.ChannelState.{ChannelState, blank_start}
 use Rattle.run_laws.specs.Headline.{CountsAll}
@@ -29,7 +30,7 @@ use Rattle.ssd_formats.specs.HistoryText.{is_spelled_entry}
 use Rattle.ssd_formats.specs.ImageHead.{Head, IsHead, matrix_of_head}
 use Rattle.ssd_geo.specs.Shape.{sizes_of}
 use Rattle.ssd_formats.specs.Input.{Input}
-use Rattle.ssd_histories.specs.Start.{BlockCells, Start, blank_cells}
+use Rattle.ssd_histories.specs.Start.{Start}
 use Rattle.ssd_geo.specs.declared.entry.Entry.{Entry}
 use Rattle.ssd_geo.specs.declared.row.Row.{Row}
 use Rattle.ssd_geo.specs.declared.trace.Trace.{Trace}

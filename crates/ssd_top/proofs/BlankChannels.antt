@@ -6,11 +6,11 @@ use Rattle.std.proofs.lemmas.Bool.Decides.{nat_tests}
 use Rattle.std.proofs.lemmas.List.Folds.{sum_by-zero}
 use Rattle.std.proofs.lemmas.List.FromFn.{length-range_with_len, map-range_with_len_more}
 use Rattle.std.proofs.lemmas.Simd.{map-map}
+use Rattle.ssd_geo.specs.BlockCells.{blank_cells, BlockCells}
 use Rattle.ssd_histories.specs.Blocks.{has_due_used}
 use Rattle.ssd_formats.specs.ImageContents.{SavedBlock, blank_channel, blank_saved, blocks_of_saved, cells_of_block, cells_of_saved, is_stripe_open, is_factory_bad, sum_of_saved}
 use Rattle.ssd_geo.specs.Limits.{word_bytes_of}
 use Rattle.ssd_formats.specs.ImageHead.{Head}
-use Rattle.ssd_histories.specs.Start.{BlockCells, blank_cells}
 use Rattle.ssd_histories.specs.States.{is_frontier, is_victim}
 use Rattle.ssd_geo.specs.StripeSum.{zero_word}
 use Rattle.ssd_geo.specs.declared.base.BlockBase.{BlockBase}

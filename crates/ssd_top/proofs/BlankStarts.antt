@@ -6,6 +6,7 @@ use Rattle.std.proofs.Math.Nat.{mul-le-mul}
 use Rattle.std.proofs.lemmas.List.{length-replicate, get_or-replicate}
 use Rattle.std.proofs.lemmas.List.Elements.{All-map, All-replicate}
 use Rattle.std.proofs.lemmas.List.FromFn.{length-map-range_with_len, get_or-map-range_with_len}
+use Rattle.ssd_geo.specs.BlockCells.{blank_cells, BlockCells}
 use Rattle.ssd_geo.specs.BaseMatrix as BaseMatrix
 use Rattle.ssd_geo.specs.BaseMatrix.{BaseMatrix, first_fault}
 use Rattle.ssd_histories.specs.Blocks.{AreSound, block_at, blank_block, is_due_block, is_frontier_block, is_victim_block}
@@ -20,7 +21,7 @@ use Rattle.ssd_histories.specs.Standing.{HasFields, IsDueBlock, IsStart, names_u
 use Rattle.ssd_geo.specs.Limits.{Sizes, is_within, is_level, page_cells_of, word_bytes_of}
 use Rattle.ssd_geo.specs.PageWord.{code_in}
 use Rattle.ssd_geo.specs.Shape.{sizes_of}
-use Rattle.ssd_histories.specs.Start.{BlockCells, Start, blank_cells, cells_at}
+use Rattle.ssd_histories.specs.Start.{Start, cells_at_start}
 use Rattle.ssd_geo.specs.StripeSum.{zero_word}
 use Rattle.ssd_geo.specs.Superblock.{due_pages}
 use Rattle.ssd_geo.specs.declared.base.BlockBase.{BlockBase}
@@ -190,7 +191,7 @@ fields_of_base head channel base h c b =
 
 -- each block of its dies has no page, and none is due
 cells_of_die : (start : Start) (die sb : ℕ) → AreBlankCells start → die < start.base.shape.dies →
-    sb < start.base.shape.superblocks → cells_at start die sb ≡ blank_cells
+    sb < start.base.shape.superblocks → cells_at_start start die sb ≡ blank_cells
 cells_of_die start die sb cells in_dies in_blocks =
     let blocks : List BlockCells = replicate start.base.shape.superblocks blank_cells in
     ap (λ (all : List (List BlockCells)). let of_die : List BlockCells = get_or all die [] in get_or of_die sb blank_cells) cells
@@ -200,9 +201,9 @@ cells_of_die start die sb cells in_dies in_blocks =
 block_due : (head : Head) (channel : ℕ) (start : Start) (die sb : ℕ) → IsBlankBase head channel start.base →
     AreBlankCells start → die < start.base.shape.dies → sb < start.base.shape.superblocks → IsDueBlock start die sb
 block_due head channel start die sb b cells in_dies in_blocks =
-    let same : cells_at start die sb ≡ blank_cells = cells_of_die start die sb cells in_dies in_blocks in
-    let pages : (cells_at start die sb).pages ≡ [] = ap (λ (of : BlockCells). of.pages) same in
-    let none : length (cells_at start die sb).pages ≡ 0 = ap (λ (all : List (List ℤ)). length all) pages in
+    let same : cells_at_start start die sb ≡ blank_cells = cells_of_die start die sb cells in_dies in_blocks in
+    let pages : (cells_at_start start die sb).pages ≡ [] = ap (λ (of : BlockCells). of.pages) same in
+    let none : length (cells_at_start start die sb).pages ≡ 0 = ap (λ (all : List (List ℤ)). length all) pages in
     let block : block_at start.base.blocks sb ≡ blank_block_of head channel sb = block_is head channel start.base sb b in_blocks in
     let used : (block_at start.base.blocks sb).used ≡ 0 = ap (λ (of : BlockBase). of.used) block in
     let due : due_pages start.base.shape.dies sb (block_at start.base.blocks sb).used die ≡ 0 =

@@ -1,5 +1,5 @@
 use Rattle.std.proofs.Common.{◌∙◌, ℕ, List, ap, replicate}
-use Rattle.onfi_cmd.specs.DieState.{BlockCells}
+use Rattle.ssd_geo.specs.BlockCells.{BlockCells}
 use Rattle.die_model.specs.Stored.{Stored, kept_blocks}
 use Rattle.die_model.proofs.KeptLemmas.{kept-blank}
 use Rattle.die_model.proofs.store.Store.new.Goals as goal

@@ -1,7 +1,7 @@
 use Rattle.std.proofs.Common.{◌∙◌, ℕ, ◌+◌, ◌*◌, List, ap, sym, drop, take, get_or, length, ℤ, arith}
 use Rattle.std.proofs.lemmas.List.{length-drop, length-take-le}
 use Rattle.std.proofs.lemmas.List.FromFn.{get_or-map-range_with_len}
-use Rattle.onfi_cmd.specs.DieState.{BlockCells, cells_at}
+use Rattle.ssd_geo.specs.BlockCells.{BlockCells, cells_at}
 use Rattle.die_model.specs.Stored.{Stored, kept_page}
 use Rattle.die_model.proofs.KeptLemmas.{in_store, page_fits, cells_at-kept_blocks}
 use Rattle.die_model.proofs.store.Store.page.Goals as goal
