@@ -1,1 +1,5 @@
 pub mod DiesState
+pub mod Erasing
+pub mod Kept
+pub mod OneDie
+pub mod Programming

@@ -1,20 +1,20 @@
 /// How a program of a slot ended.
-#[derive(Clone, Copy, Debug, Drop, PartialEq, Eq)]
+#[derive(Clone, Copy, Debug, PartialEq, Eq)]
 pub enum ProgramEnd {
-    /// The slot was programmed, and with the last slot of a stripe the parity too.
+    /// The word stands in the slot's page, and with the last slot of a stripe the sum in the parity's.
     Programmed,
-    /// This die answered FAIL.
+    /// The block of this die is weak and answered FAIL.
     Failed { die: u8 },
     /// The call of this die failed.
     Fault { die: u8 },
 }
 
-/// How an erase of a superblock ended.
-#[derive(Clone, Copy, Debug, Drop, PartialEq, Eq)]
+/// How an erase of a superblock ended. The blocks of the dies below the one that is named were erased.
+#[derive(Clone, Copy, Debug, PartialEq, Eq)]
 pub enum EraseEnd {
-    /// All dies were erased.
+    /// All blocks of the superblock were erased.
     Erased,
-    /// This die answered FAIL.
+    /// The block of this die is weak and answered FAIL.
     Failed { die: u8 },
     /// The call of this die failed.
     Fault { die: u8 },

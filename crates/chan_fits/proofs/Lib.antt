@@ -1,1 +1,10 @@
+pub mod BlockChanges
+pub mod DueDies
+pub mod FirstSum
+pub mod FreshSums
+pub mod Frontiers
+pub mod PlacesInRange
+pub mod SumsAfter
 pub mod ToldBlocks
+pub mod WeakDies
+pub mod DieCounts

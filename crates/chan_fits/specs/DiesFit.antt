@@ -35,13 +35,13 @@ abbrev pub told_erases : List DieState → ℕ → ℕ → ℕ
 told_erases dies die sb = (cells_at (blocks_told dies die) sb).erases
 
 -- the levels of a page by the past, where it is programmed
-abbrev pub levels_by : Start → List (Tag × List ℕ) → List Entry → Place → Option (List ℤ)
-levels_by start contents past place = option_map (λ stored. stored.levels) (page_of (coding_of start.base) start contents past place)
+abbrev pub stored_levels : Start → List (Tag × List ℕ) → List Entry → Place → Option (List ℤ)
+stored_levels start contents past place = option_map (λ stored. stored.levels) (page_of (coding_of start.base) start contents past place)
 
 -- the dies and the running sum are those of a start after a past
 pub record DiesFit (start : Start) (contents : List (Tag × List ℕ)) (past : List Entry) (dies : List DieState) (sum : List ℕ) : Type 0 where
   pub plans_are : (die : ℕ) → die < start.base.shape.dies → (die_at dies die).plan ≡ Some (plan_of start.base die)
-  pub pages_are : (place : Place) → IsTrue (has_place start.base.shape place) → told_page dies place ≡ levels_by start contents past place
+  pub pages_are : (place : Place) → IsTrue (has_place start.base.shape place) → told_page dies place ≡ stored_levels start contents past place
   pub erases_are :
       (die sb : ℕ) → die < start.base.shape.dies → sb < start.base.shape.superblocks → IsFalse (is_bad (state_of start.base past sb))
       → told_erases dies die sb ≡ erases_of start.base past sb
