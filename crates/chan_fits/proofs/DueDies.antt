@@ -48,12 +48,12 @@ elsewhere_now : (blocks : List BlockBase) (sb other : ℕ) (to : BlockBase) → 
 elsewhere_now blocks sb other to differ = get_or-set_other blocks sb other to blank_block differ
 
 -- a superblock is due in a die
-record IsDueIn (shape : Shape) (block : BlockBase) (dies : List DieState) (die sb : ℕ) : Type 0 where
+pub record IsDueIn (shape : Shape) (block : BlockBase) (dies : List DieState) (die sb : ℕ) : Type 0 where
   pub pages : programmed_in (blocks_told dies die) sb ≡ due_pages shape.dies sb block.used die
   pub erases : told_erases dies die sb ≡ block.erases
 
 -- where one superblock of the table changed, and the dies' other blocks stay, that superblock has to be due
-due_but_one : (shape : Shape) (blocks : List BlockBase) (old new : List DieState) (sb : ℕ) (to : BlockBase) → length blocks ≡ shape.superblocks
+pub due_but_one : (shape : Shape) (blocks : List BlockBase) (old new : List DieState) (sb : ℕ) (to : BlockBase) → length blocks ≡ shape.superblocks
     → ((die : ℕ) → die < shape.dies → KeepsOtherBlocks sb (blocks_told old die) (blocks_told new die))
     → (IsFalse (is_bad to.state) → (die : ℕ) → die < shape.dies → sb < shape.superblocks → IsDueIn shape to new die sb)
     → AreDue shape blocks old → AreDue shape (set blocks sb to) new

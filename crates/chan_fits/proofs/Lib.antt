@@ -1,4 +1,5 @@
 pub mod BlockChanges
+pub mod DueAfter
 pub mod DueDies
 pub mod FirstSum
 pub mod FreshSums
