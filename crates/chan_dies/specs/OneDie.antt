@@ -1,6 +1,6 @@
 -- What may an operation leave of a die? It keeps the die's blocks and counts, or a fault is counted as work, or the blocks
 -- are others now. The read level and the kept status are no one's concern but the die's.
-use Rattle.std.specs.Prelude.{ℕ, ◌≡◌, ◌≢◌, IsTrue, IsFalse, List, length, Option, Some, None, ℤ}
+use Rattle.std.specs.Prelude.{ℕ, ◌≡◌, ◌≢◌, IsTrue, IsFalse, List, length, Option, Some, None}
 use Rattle.ssd_geo.specs.BlockCells.{BlockCells}
 use Rattle.ssd_geo.specs.Faults.{Rose}
 use Rattle.onfi_cmd.specs.DieState.{DieState, with_aged, with_erased, with_page}
@@ -56,14 +56,14 @@ AgesBlock sb amount old new = HoldsNow old new (aged_by old.plan (blocks_in old)
 abbrev pub OthersStay : ℕ → List DieState → List DieState → Type 0
 OthersStay die old new = (other : ℕ) → other ≢ die → die_at new other ≡ die_at old other
 
--- the sizes and the number of dies stay
-pub record KeepsSizes (old new : DiesState) : Type 0 where
-  pub shape_stays : new.shape ≡ old.shape
-  pub count_stays : length new.dies ≡ length old.dies
+-- this became of one die, and the others stay
+pub record ChangesDie (die : ℕ) (P : DieState → DieState → Type 0) (old new : List DieState) : Type 0 where
+  pub count_stays : length new ≡ length old
+  pub others : OthersStay die old new
+  pub changed : P (die_at old die) (die_at new die)
 
--- this became of one die, and all else stays
+-- the same, and the sizes and the running sum stay too
 pub record ChangesOneDie (die : ℕ) (P : DieState → DieState → Type 0) (old new : DiesState) : Type 0 where
-  pub sizes : KeepsSizes old new
+  pub shape_stays : new.shape ≡ old.shape
   pub sum_stays : new.sum ≡ old.sum
-  pub others : OthersStay die old.dies new.dies
-  pub changed : P (die_at old.dies die) (die_at new.dies die)
+  pub dies : ChangesDie die P old.dies new.dies

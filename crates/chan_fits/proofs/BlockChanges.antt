@@ -2,7 +2,6 @@
 use Rattle.std.proofs.Common.{◌≡◌, ◌≢◌, ℕ, ◌+◌, ◌<◌, ◌≤◌, ◌==◌, Bool, true, false, List, [], ◌∷◌, ◌++◌, ℤ, length, refl, ap, sym, ◌∙◌, subst, Option, Some, None, arith, length-set, inl, inr, ◌⊎◌}
 use Rattle.std.specs.Prelude.{unwrap_or, IsTrue}
 use Rattle.std.proofs.lemmas.Bool.{cases_eq, cases_lt}
-use Rattle.ssd_geo.specs.Bits.{bytes_sum}
 use Rattle.ssd_geo.specs.BlockCells.{BlockCells, cells_at}
 use Rattle.ssd_geo.specs.Stripe.{is_last_of_stripe, parity_die, place_of_parity, place_of_slot, stripe_of_index}
 use Rattle.ssd_geo.specs.declared.place.Place.{Place}
@@ -10,7 +9,7 @@ use Rattle.ssd_geo.specs.declared.shape.Shape.{Shape}
 use Rattle.ssd_geo.specs.declared.slot.Slot.{Slot}
 use Rattle.onfi_cmd.specs.DieState.{DieState, with_erased, with_page}
 use Rattle.chan_dies.specs.DiesState.{DiesState, blocks_in, blocks_told, die_at, fresh_in}
-use Rattle.chan_dies.specs.Erasing.{ErasesBelow, IsErased, StopsErase}
+use Rattle.chan_dies.specs.Erasing.{ErasesBelow, ErasesFirst, StopsErase}
 use Rattle.chan_dies.specs.OneDie.{FaultsDie, HoldsNow, KeepsDie, PutsPage}
 use Rattle.chan_dies.specs.Programming.{IsProgrammed, PutsAt, StopsAtParity, StopsAtSlot, StopsProgram, page_of_slot, parity_of_slot}
 use Rattle.chan_fits.proofs.ToldBlocks.{erased_elsewhere, put_elsewhere}
@@ -78,50 +77,50 @@ put_blocks place word old new die here puts =
     (page_blocks place.sb (blocks_told old place.die) (blocks_told new place.die) (fresh_in (die_at old place.die) place.sb place.page word) (told_put place word old new puts))
 
 -- the other blocks of each die stay where a slot was programmed
-pub programmed_blocks : (old new : DiesState) (slot : Slot) (word : List ℕ) → IsProgrammed old new slot word → (die : ℕ)
-    → KeepsOtherBlocks slot.sb (blocks_told old.dies die) (blocks_told new.dies die)
-programmed_blocks old new slot word is die = elim (cases_eq die (page_of_slot old.shape slot).die) [
-  | inl here ↦ put_blocks (page_of_slot old.shape slot) word old.dies new.dies die here is.slot_page
-  | inr other ↦ elim (cases_eq die (parity_of_slot old.shape slot).die) [
-    | inl here ↦ by_last (is_last_of_stripe old.shape.dies slot.index) refl other here
+pub programmed_blocks : (shape : Shape) (slot : Slot) (word sum : List ℕ) (old new : List DieState) → IsProgrammed shape slot word sum old new → (die : ℕ)
+    → KeepsOtherBlocks slot.sb (blocks_told old die) (blocks_told new die)
+programmed_blocks shape slot word sum old new is die = elim (cases_eq die (page_of_slot shape slot).die) [
+  | inl here ↦ put_blocks (page_of_slot shape slot) word old new die here is.slot_page
+  | inr other ↦ elim (cases_eq die (parity_of_slot shape slot).die) [
+    | inl here ↦ by_last (is_last_of_stripe shape.dies slot.index) refl other here
     | inr far ↦
-        same_blocks slot.sb (blocks_told old.dies die) (blocks_told new.dies die) (told_same old.dies new.dies die (is.others die other (λ last. far)))
+        same_blocks slot.sb (blocks_told old die) (blocks_told new die) (told_same old new die (is.others die other (λ last. far)))
   ]
 ]
   where
-    by_last : (b : Bool) → is_last_of_stripe old.shape.dies slot.index ≡ b → die ≢ (page_of_slot old.shape slot).die → die ≡ (parity_of_slot old.shape slot).die
-        → KeepsOtherBlocks slot.sb (blocks_told old.dies die) (blocks_told new.dies die)
-    by_last true last other here = put_blocks (parity_of_slot old.shape slot) (bytes_sum word old.sum) old.dies new.dies die here (is.parity_page last)
+    by_last : (b : Bool) → is_last_of_stripe shape.dies slot.index ≡ b → die ≢ (page_of_slot shape slot).die → die ≡ (parity_of_slot shape slot).die
+        → KeepsOtherBlocks slot.sb (blocks_told old die) (blocks_told new die)
+    by_last true last other here = put_blocks (parity_of_slot shape slot) sum old new die here (is.parity_page last)
     by_last false e other here =
-        same_blocks slot.sb (blocks_told old.dies die) (blocks_told new.dies die)
-        (told_same old.dies new.dies die (is.others die other (λ last. absurd (apart (is_last_of_stripe old.shape.dies slot.index) e last))))
+        same_blocks slot.sb (blocks_told old die) (blocks_told new die)
+        (told_same old new die (is.others die other (λ last. absurd (apart (is_last_of_stripe shape.dies slot.index) e last))))
 
 -- what holds of the die at which an operation stopped: it tells what it told
 abbrev pub TellsTheSame : (DieState → DieState → Type 0) → Type 0
 TellsTheSame P = (old new : DieState) → P old new → blocks_in new ≡ blocks_in old
 
 -- and where a program stopped
-pub stopped_blocks : (old new : DiesState) (slot : Slot) (word : List ℕ) (die : ℕ) (P : DieState → DieState → Type 0) → TellsTheSame P
-    → StopsProgram old new slot word die P → (other : ℕ) → KeepsOtherBlocks slot.sb (blocks_told old.dies other) (blocks_told new.dies other)
-stopped_blocks old new slot word die P tells stops other = elim (stops.stops) [
+pub stopped_blocks : (shape : Shape) (slot : Slot) (word : List ℕ) (die : ℕ) (P : DieState → DieState → Type 0) (old new : List DieState) → TellsTheSame P
+    → StopsProgram shape slot word die P old new → (other : ℕ) → KeepsOtherBlocks slot.sb (blocks_told old other) (blocks_told new other)
+stopped_blocks shape slot word die P old new tells stops other = elim (stops.stops) [
   | inl first ↦ elim (cases_eq other die) [
     | inl here ↦ stopped_here first.stopped here
-    | inr far ↦ same_blocks slot.sb (blocks_told old.dies other) (blocks_told new.dies other) (told_same old.dies new.dies other (first.others other far))
+    | inr far ↦ same_blocks slot.sb (blocks_told old other) (blocks_told new other) (told_same old new other (first.others other far))
   ]
   | inr second ↦ elim (cases_eq other die) [
     | inl here ↦ stopped_here second.stopped here
-    | inr far ↦ elim (cases_eq other (page_of_slot old.shape slot).die) [
-      | inl here ↦ put_blocks (page_of_slot old.shape slot) word old.dies new.dies other here second.slot_page
+    | inr far ↦ elim (cases_eq other (page_of_slot shape slot).die) [
+      | inl here ↦ put_blocks (page_of_slot shape slot) word old new other here second.slot_page
       | inr elsewhere ↦
-          same_blocks slot.sb (blocks_told old.dies other) (blocks_told new.dies other) (told_same old.dies new.dies other (second.others other far elsewhere))
+          same_blocks slot.sb (blocks_told old other) (blocks_told new other) (told_same old new other (second.others other far elsewhere))
     ]
   ]
 ]
   where
-    stopped_here : P (die_at old.dies die) (die_at new.dies die) → other ≡ die → KeepsOtherBlocks slot.sb (blocks_told old.dies other) (blocks_told new.dies other)
+    stopped_here : P (die_at old die) (die_at new die) → other ≡ die → KeepsOtherBlocks slot.sb (blocks_told old other) (blocks_told new other)
     stopped_here stopped here =
-        subst (λ (n : ℕ). KeepsOtherBlocks slot.sb (blocks_told old.dies n) (blocks_told new.dies n)) (sym here)
-        (same_blocks slot.sb (blocks_told old.dies die) (blocks_told new.dies die) (tells (die_at old.dies die) (die_at new.dies die) stopped))
+        subst (λ (n : ℕ). KeepsOtherBlocks slot.sb (blocks_told old n) (blocks_told new n)) (sym here)
+        (same_blocks slot.sb (blocks_told old die) (blocks_told new die) (tells (die_at old die) (die_at new die) stopped))
 
 -- ---- an erase of a superblock
 
@@ -138,11 +137,11 @@ by_order C a b below at above = elim (cases_lt a b) [
 ]
 
 -- the other blocks of each die stay where an erase stopped
-pub unerased_blocks : (old new : DiesState) (sb die : ℕ) (P : DieState → DieState → Type 0) → TellsTheSame P → StopsErase old new sb die P
-    → (other : ℕ) → KeepsOtherBlocks sb (blocks_told old.dies other) (blocks_told new.dies other)
-unerased_blocks old new sb die P tells stops other =
-    by_order (KeepsOtherBlocks sb (blocks_told old.dies other) (blocks_told new.dies other)) other die
-    (λ lt. erased_blocks sb (blocks_told old.dies other) (blocks_told new.dies other) (erased_below die sb old.dies new.dies stops.below other lt))
-    (λ here. subst (λ (n : ℕ). KeepsOtherBlocks sb (blocks_told old.dies n) (blocks_told new.dies n)) (sym here)
-    (same_blocks sb (blocks_told old.dies die) (blocks_told new.dies die) (tells (die_at old.dies die) (die_at new.dies die) stops.stopped)))
-    (λ more. same_blocks sb (blocks_told old.dies other) (blocks_told new.dies other) (told_same old.dies new.dies other (stops.above other more)))
+pub unerased_blocks : (count sb die : ℕ) (P : DieState → DieState → Type 0) (old new : List DieState) → TellsTheSame P → StopsErase count sb die P old new
+    → (other : ℕ) → KeepsOtherBlocks sb (blocks_told old other) (blocks_told new other)
+unerased_blocks count sb die P old new tells stops other =
+    by_order (KeepsOtherBlocks sb (blocks_told old other) (blocks_told new other)) other die
+    (λ lt. erased_blocks sb (blocks_told old other) (blocks_told new other) (erased_below die sb old new stops.below other lt))
+    (λ here. subst (λ (n : ℕ). KeepsOtherBlocks sb (blocks_told old n) (blocks_told new n)) (sym here)
+    (same_blocks sb (blocks_told old die) (blocks_told new die) (tells (die_at old die) (die_at new die) stops.stopped)))
+    (λ more. same_blocks sb (blocks_told old other) (blocks_told new other) (told_same old new other (stops.above other (omega arith))))

@@ -5,7 +5,6 @@ use Rattle.std.specs.Prelude.{IsFalse, if◌then◌else◌}
 use Rattle.std.proofs.lemmas.Bool.{cases_eq}
 use Rattle.std.proofs.lemmas.Bool.Decides.{nat_tests}
 use Rattle.ssd_geo.specs.BlockCells.{BlockCells, cells_at}
-use Rattle.ssd_geo.specs.Bits.{bytes_sum}
 use Rattle.ssd_geo.specs.Cells.{aged_level}
 use Rattle.ssd_geo.specs.Stripe.{is_last_of_stripe, parity_die, place_of_parity, place_of_slot, stripe_of_index}
 use Rattle.ssd_geo.specs.StripeLaws.{due_after_one}
@@ -22,8 +21,8 @@ use Rattle.onfi_cmd.specs.DieState as Die
 use Rattle.onfi_cmd.specs.DieState.{DieState, programmed_in}
 use Rattle.onfi_cmd.specs.declared.plan.DiePlan.{DiePlan}
 use Rattle.chan_dies.specs.DiesState.{DiesState, blocks_in, blocks_told, die_at, fresh_in, programmed_at}
-use Rattle.chan_dies.specs.Erasing.{IsErased}
-use Rattle.chan_dies.specs.OneDie.{AgesBlock, ChangesOneDie, OthersStay, aged_by}
+use Rattle.chan_dies.specs.Erasing.{ErasesFirst}
+use Rattle.chan_dies.specs.OneDie.{AgesBlock, ChangesDie, OthersStay, aged_by}
 use Rattle.chan_dies.specs.Programming.{IsProgrammed, PutsAt, page_of_slot, parity_of_slot}
 use Rattle.chan_fits.specs.DiesFit.{AreDue, told_erases}
 use Rattle.chan_fits.proofs.BlockChanges.{KeepsOtherBlocks, apart, erased_below, erased_blocks, programmed_blocks, told_now, told_put, told_same}
@@ -68,98 +67,98 @@ record IsPagesMore (dies slot_die parity sb : ℕ) (last : Bool) (old new : List
   pub pages : programmed_in (blocks_told new die) sb ≡ programmed_in (blocks_told old die) sb + one_if (die == slot_die) + one_if (last && die == parity)
   pub erases : told_erases new die sb ≡ told_erases old die sb
 
-pages_more : (old new : DiesState) (slot : Slot) (word : List ℕ) → IsTrue (has_slot old.shape slot) → IsProgrammed old new slot word
-    → (die : ℕ) → slot.sb < length (blocks_told old.dies die)
-    → IsPagesMore old.shape.dies (page_of_slot old.shape slot).die (parity_of_slot old.shape slot).die slot.sb (is_last_of_stripe old.shape.dies slot.index) old.dies new.dies die
-pages_more old new slot word range is die lt = elim (cases_eq die slot_die) [
+pages_more : (shape : Shape) (slot : Slot) (word sum : List ℕ) (old new : List DieState) → IsTrue (has_slot shape slot) → IsProgrammed shape slot word sum old new
+    → (die : ℕ) → slot.sb < length (blocks_told old die)
+    → IsPagesMore shape.dies (page_of_slot shape slot).die (parity_of_slot shape slot).die slot.sb (is_last_of_stripe shape.dies slot.index) old new die
+pages_more shape slot word sum old new range is die lt = elim (cases_eq die slot_die) [
   | inl here ↦
-      let differ : (die == parity) ≡ false = test_other die parity (λ e. dies_differ old.shape slot range (sym here ∙ e)) in
+      let differ : (die == parity) ≡ false = test_other die parity (λ e. dies_differ shape slot range (sym here ∙ e)) in
       record {
         pages = counts (die == slot_die) last (die == parity) (test_eq die slot_die here) (no_parity last (die == parity) differ)
-            (subst (λ (n : ℕ). programmed_in (blocks_told new.dies n) slot.sb ≡ programmed_in (blocks_told old.dies n) slot.sb + 1) (sym here)
-            (put_more (page_of_slot old.shape slot) word old.dies new.dies is.slot_page (subst (λ (n : ℕ). slot.sb < length (blocks_told old.dies n)) here lt)));
+            (subst (λ (n : ℕ). programmed_in (blocks_told new n) slot.sb ≡ programmed_in (blocks_told old n) slot.sb + 1) (sym here)
+            (put_more (page_of_slot shape slot) word old new is.slot_page (subst (λ (n : ℕ). slot.sb < length (blocks_told old n)) here lt)));
         erases =
-            subst (λ (n : ℕ). told_erases new.dies n slot.sb ≡ told_erases old.dies n slot.sb) (sym here)
-            (put_erases (page_of_slot old.shape slot) word old.dies new.dies is.slot_page (subst (λ (n : ℕ). slot.sb < length (blocks_told old.dies n)) here lt));
+            subst (λ (n : ℕ). told_erases new n slot.sb ≡ told_erases old n slot.sb) (sym here)
+            (put_erases (page_of_slot shape slot) word old new is.slot_page (subst (λ (n : ℕ). slot.sb < length (blocks_told old n)) here lt));
       }
   | inr other ↦ elim (cases_eq die parity) [
     | inl here ↦ by_last last refl other here
-    | inr far ↦ untouched other (no_parity last (die == parity) (test_other die parity far)) (told_same old.dies new.dies die (is.others die other (λ last. far)))
+    | inr far ↦ untouched other (no_parity last (die == parity) (test_other die parity far)) (told_same old new die (is.others die other (λ last. far)))
   ]
 ]
   where
     slot_die : ℕ
-    slot_die = (page_of_slot old.shape slot).die
+    slot_die = (page_of_slot shape slot).die
 
     parity : ℕ
-    parity = (parity_of_slot old.shape slot).die
+    parity = (parity_of_slot shape slot).die
 
     last : Bool
-    last = is_last_of_stripe old.shape.dies slot.index
+    last = is_last_of_stripe shape.dies slot.index
 
     no_parity : (a b : Bool) → b ≡ false → (a && b) ≡ false
     no_parity true b e = e
     no_parity false b e = refl
 
-    counts : (a l b : Bool) → a ≡ true → (l && b) ≡ false → programmed_in (blocks_told new.dies die) slot.sb ≡ programmed_in (blocks_told old.dies die) slot.sb + 1
-        → programmed_in (blocks_told new.dies die) slot.sb ≡ programmed_in (blocks_told old.dies die) slot.sb + one_if a + one_if (l && b)
+    counts : (a l b : Bool) → a ≡ true → (l && b) ≡ false → programmed_in (blocks_told new die) slot.sb ≡ programmed_in (blocks_told old die) slot.sb + 1
+        → programmed_in (blocks_told new die) slot.sb ≡ programmed_in (blocks_told old die) slot.sb + one_if a + one_if (l && b)
     counts a l b e f g =
         let one : one_if a ≡ 1 = ap {B = ℕ} one_if e in
         let none : one_if (l && b) ≡ 0 = ap {B = ℕ} one_if f in
         omega (arith, one, none, g)
 
-    untouched : die ≢ slot_die → (last && die == parity) ≡ false → blocks_told new.dies die ≡ blocks_told old.dies die
-        → IsPagesMore old.shape.dies slot_die parity slot.sb last old.dies new.dies die
+    untouched : die ≢ slot_die → (last && die == parity) ≡ false → blocks_told new die ≡ blocks_told old die
+        → IsPagesMore shape.dies slot_die parity slot.sb last old new die
     untouched other far same =
         let none : one_if (die == slot_die) ≡ 0 = ap {B = ℕ} one_if (test_other die slot_die other) in
         let no_more : one_if (last && die == parity) ≡ 0 = ap {B = ℕ} one_if far in
-        let as_many : programmed_in (blocks_told new.dies die) slot.sb ≡ programmed_in (blocks_told old.dies die) slot.sb =
+        let as_many : programmed_in (blocks_told new die) slot.sb ≡ programmed_in (blocks_told old die) slot.sb =
         ap {B = ℕ} (λ (blocks : List BlockCells). programmed_in blocks slot.sb) same in
         record {
           pages = omega (arith, none, no_more, as_many);
           erases = ap {B = ℕ} (λ (blocks : List BlockCells). (cells_at blocks slot.sb).erases) same;
         }
 
-    by_last : (b : Bool) → last ≡ b → die ≢ slot_die → die ≡ parity → IsPagesMore old.shape.dies slot_die parity slot.sb last old.dies new.dies die
+    by_last : (b : Bool) → last ≡ b → die ≢ slot_die → die ≡ parity → IsPagesMore shape.dies slot_die parity slot.sb last old new die
     by_last true e other here =
-        let puts : PutsAt (parity_of_slot old.shape slot) (bytes_sum word old.sum) old.dies new.dies = is.parity_page e in
-        let low : slot.sb < length (blocks_told old.dies parity) = subst (λ (n : ℕ). slot.sb < length (blocks_told old.dies n)) here lt in
+        let puts : PutsAt (parity_of_slot shape slot) sum old new = is.parity_page e in
+        let low : slot.sb < length (blocks_told old parity) = subst (λ (n : ℕ). slot.sb < length (blocks_told old n)) here lt in
         let none : one_if (die == slot_die) ≡ 0 = ap {B = ℕ} one_if (test_other die slot_die other) in
         let one : one_if (last && die == parity) ≡ 1 = (λ i. one_if (e i && test_eq die parity here i)) in
-        let more : programmed_in (blocks_told new.dies die) slot.sb ≡ programmed_in (blocks_told old.dies die) slot.sb + 1 =
-        subst (λ (n : ℕ). programmed_in (blocks_told new.dies n) slot.sb ≡ programmed_in (blocks_told old.dies n) slot.sb + 1) (sym here)
-        (put_more (parity_of_slot old.shape slot) (bytes_sum word old.sum) old.dies new.dies puts low) in
+        let more : programmed_in (blocks_told new die) slot.sb ≡ programmed_in (blocks_told old die) slot.sb + 1 =
+        subst (λ (n : ℕ). programmed_in (blocks_told new n) slot.sb ≡ programmed_in (blocks_told old n) slot.sb + 1) (sym here)
+        (put_more (parity_of_slot shape slot) sum old new puts low) in
         record {
           pages = omega (arith, none, one, more);
           erases =
-              subst (λ (n : ℕ). told_erases new.dies n slot.sb ≡ told_erases old.dies n slot.sb) (sym here)
-              (put_erases (parity_of_slot old.shape slot) (bytes_sum word old.sum) old.dies new.dies puts low);
+              subst (λ (n : ℕ). told_erases new n slot.sb ≡ told_erases old n slot.sb) (sym here)
+              (put_erases (parity_of_slot shape slot) sum old new puts low);
         }
     by_last false e other here =
         untouched other (ap {B = Bool} (λ (b : Bool). b && die == parity) e)
-        (told_same old.dies new.dies die (is.others die other (λ f. absurd (apart last e f))))
+        (told_same old new die (is.others die other (λ f. absurd (apart last e f))))
 
 -- the next slot was programmed
-pub due_programmed : (slots : ℕ) (blocks : List BlockBase) (old new : DiesState) (slot : Slot) (word : List ℕ) → length blocks ≡ old.shape.superblocks
-    → next_slot_of blocks ≡ Some slot → IsTrue (has_slot old.shape slot) → IsProgrammed old new slot word
-    → AreDue old.shape blocks old.dies → AreDue old.shape (with_next_used slots blocks) new.dies
-due_programmed slots blocks old new slot word count next range is due =
+pub due_programmed : (slots : ℕ) (shape : Shape) (blocks : List BlockBase) (slot : Slot) (word sum : List ℕ) (old new : List DieState) → length blocks ≡ shape.superblocks
+    → next_slot_of blocks ≡ Some slot → IsTrue (has_slot shape slot) → IsProgrammed shape slot word sum old new
+    → AreDue shape blocks old → AreDue shape (with_next_used slots blocks) new
+due_programmed slots shape blocks slot word sum old new count next range is due =
     let block : BlockBase = block_at blocks slot.sb in
     let good : IsFalse (is_bad block.state) = next_good blocks slot next in
     let index : slot.index ≡ block.used = next_index blocks slot next in
-    let two : 2 ≤ old.shape.dies = omega (arith, old.shape.within.dies_low) in
-    subst (λ (after : List BlockBase). AreDue old.shape after new.dies) (sym (next_used slots blocks slot next))
-    (due_but_one old.shape blocks old.dies new.dies slot.sb (with_slot_used slots block) count (λ die lt. programmed_blocks old new slot word is die)
+    let two : 2 ≤ shape.dies = omega (arith, shape.within.dies_low) in
+    subst (λ (after : List BlockBase). AreDue shape after new) (sym (next_used slots blocks slot next))
+    (due_but_one shape blocks old new slot.sb (with_slot_used slots block) count (λ die lt. programmed_blocks shape slot word sum old new is die)
     (λ sound die lt within.
-    let more = pages_more old new slot word range is die (omega (arith, due.blocks_count die lt)) in
-    let before : programmed_in (blocks_told old.dies die) slot.sb ≡ due_pages old.shape.dies slot.sb slot.index die =
-    due.pages_due die slot.sb lt within good ∙ ap {B = ℕ} (λ (n : ℕ). due_pages old.shape.dies slot.sb n die) (sym index) in
-    let step : due_pages old.shape.dies slot.sb (slot.index + 1) die ≡ due_after_one old.shape.dies slot.sb slot.index die =
-    due_pages_step old.shape.dies slot.sb slot.index die two lt in
-    let now : due_pages old.shape.dies slot.sb (slot.index + 1) die ≡ due_pages old.shape.dies slot.sb (block.used + 1) die =
-    ap {B = ℕ} (λ (n : ℕ). due_pages old.shape.dies slot.sb (n + 1) die) index in
+    let more = pages_more shape slot word sum old new range is die (omega (arith, due.blocks_count die lt)) in
+    let before : programmed_in (blocks_told old die) slot.sb ≡ due_pages shape.dies slot.sb slot.index die =
+    due.pages_due die slot.sb lt within good ∙ ap {B = ℕ} (λ (n : ℕ). due_pages shape.dies slot.sb n die) (sym index) in
+    let step : due_pages shape.dies slot.sb (slot.index + 1) die ≡ due_after_one shape.dies slot.sb slot.index die =
+    due_pages_step shape.dies slot.sb slot.index die two lt in
+    let now : due_pages shape.dies slot.sb (slot.index + 1) die ≡ due_pages shape.dies slot.sb (block.used + 1) die =
+    ap {B = ℕ} (λ (n : ℕ). due_pages shape.dies slot.sb (n + 1) die) index in
     record {
-      pages = more.pages ∙ ap {B = ℕ} (λ (n : ℕ). n + one_if (die == (page_of_slot old.shape slot).die) + one_if (is_last_of_stripe old.shape.dies slot.index && die == (parity_of_slot old.shape slot).die)) before
+      pages = more.pages ∙ ap {B = ℕ} (λ (n : ℕ). n + one_if (die == (page_of_slot shape slot).die) + one_if (is_last_of_stripe shape.dies slot.index && die == (parity_of_slot shape slot).die)) before
           ∙ sym step ∙ now;
       erases = more.erases ∙ due.erases_due die slot.sb lt within good;
     })
@@ -167,18 +166,18 @@ due_programmed slots blocks old new slot word count next range is due =
 
 -- ---- an erase, a pick and ageing
 
-pub due_erased : (blocks : List BlockBase) (old new : DiesState) (sb : ℕ) → length blocks ≡ old.shape.superblocks → victim_in blocks ≡ Some sb → IsErased old new sb
-    → AreDue old.shape blocks old.dies → AreDue old.shape (with_erased blocks sb) new.dies
-due_erased blocks old new sb count victim is due =
-    let two : 2 ≤ old.shape.dies = omega (arith, old.shape.within.dies_low) in
-    due_but_one old.shape blocks old.dies new.dies sb (erased_block (block_at blocks sb)) count
-    (λ die lt. erased_blocks sb (blocks_told old.dies die) (blocks_told new.dies die) (erased_below old.shape.dies sb old.dies new.dies is.below die lt))
+pub due_erased : (shape : Shape) (blocks : List BlockBase) (old new : List DieState) (sb : ℕ) → length blocks ≡ shape.superblocks → victim_in blocks ≡ Some sb → ErasesFirst shape.dies sb old new
+    → AreDue shape blocks old → AreDue shape (with_erased blocks sb) new
+due_erased shape blocks old new sb count victim is due =
+    let two : 2 ≤ shape.dies = omega (arith, shape.within.dies_low) in
+    due_but_one shape blocks old new sb (erased_block (block_at blocks sb)) count
+    (λ die lt. erased_blocks sb (blocks_told old die) (blocks_told new die) (erased_below shape.dies sb old new is.below die lt))
     (λ sound die lt within.
-    let now : cells_at (blocks_told new.dies die) sb ≡ record { pages = []; erases = told_erases old.dies die sb + 1 } =
-    ap {B = BlockCells} (λ (told : List BlockCells). cells_at told sb) (erased_below old.shape.dies sb old.dies new.dies is.below die lt)
-    ∙ erased_here (blocks_told old.dies die) sb (omega (arith, due.blocks_count die lt)) in
+    let now : cells_at (blocks_told new die) sb ≡ record { pages = []; erases = told_erases old die sb + 1 } =
+    ap {B = BlockCells} (λ (told : List BlockCells). cells_at told sb) (erased_below shape.dies sb old new is.below die lt)
+    ∙ erased_here (blocks_told old die) sb (omega (arith, due.blocks_count die lt)) in
     record {
-      pages = ap {B = ℕ} (λ (c : BlockCells). length c.pages) now ∙ sym (due_pages_ends old.shape.dies sb old.shape.pages die two).none;
+      pages = ap {B = ℕ} (λ (c : BlockCells). length c.pages) now ∙ sym (due_pages_ends shape.dies sb shape.pages die two).none;
       erases = ap {B = ℕ} (λ (c : BlockCells). c.erases) now ∙ ap {B = ℕ} (λ (n : ℕ). n + 1) (due.erases_due die sb lt within (victim_is_good blocks sb victim));
     })
     due

@@ -24,7 +24,7 @@ use Rattle.ssd_histories.proofs.PinnedWords.{slot_block}
 use Rattle.ssd_histories.proofs.UsedSlots.{first_holds}
 use Rattle.onfi_cmd.specs.DieState.{DieState, programmed_in}
 use Rattle.chan_dies.specs.DiesState.{DiesState, blocks_told, die_at, programmed_at}
-use Rattle.chan_dies.specs.Erasing.{CanCountErases, IsErased}
+use Rattle.chan_dies.specs.Erasing.{CanCountErases}
 use Rattle.chan_dies.specs.OneDie.{HoldsNow}
 use Rattle.chan_dies.specs.Programming.{HasNextPages, IsProgrammed}
 use Rattle.chan_fits.specs.DiesFit.{AreDue, told_erases}
@@ -146,27 +146,27 @@ pub victim_is_good : (blocks : List BlockBase) (sb : ℕ) → victim_in blocks �
 victim_is_good blocks sb e = victim_good (block_at blocks sb).state (position-Some is_victim_block blocks sb blank_block e).1
 
 -- the pages that a program of the next slot uses are the first of their blocks that aren't programmed
-pub has_next_pages : (blocks : List BlockBase) (dies : DiesState) (slot : Slot) → AreDue dies.shape blocks dies.dies → next_slot_of blocks ≡ Some slot
-    → IsTrue (has_slot dies.shape slot) → HasNextPages dies slot
-has_next_pages blocks dies slot due next range =
-    let there : HasPlaces dies.shape slot = has_places dies.shape slot range in
-    let two : 2 ≤ dies.shape.dies = omega (arith, dies.shape.within.dies_low) in
-    let rise : IsNextPage dies.shape.dies slot.sb slot.index = pages_rise dies.shape.dies slot.sb slot.index two in
-    let place : Place = place_of_slot dies.shape.dies slot in
-    let parity : Place = place_of_parity dies.shape.dies slot.sb (stripe_of_index dies.shape.dies slot.index) in
-    let low : IsPlace dies.shape.dies dies.shape.superblocks dies.shape.pages place = place_in_range dies.shape place there.slot_range in
+pub has_next_pages : (shape : Shape) (blocks : List BlockBase) (dies : List DieState) (slot : Slot) → AreDue shape blocks dies → next_slot_of blocks ≡ Some slot
+    → IsTrue (has_slot shape slot) → HasNextPages shape slot dies
+has_next_pages shape blocks dies slot due next range =
+    let there : HasPlaces shape slot = has_places shape slot range in
+    let two : 2 ≤ shape.dies = omega (arith, shape.within.dies_low) in
+    let rise : IsNextPage shape.dies slot.sb slot.index = pages_rise shape.dies slot.sb slot.index two in
+    let place : Place = place_of_slot shape.dies slot in
+    let parity : Place = place_of_parity shape.dies slot.sb (stripe_of_index shape.dies slot.index) in
+    let low : IsPlace shape.dies shape.superblocks shape.pages place = place_in_range shape place there.slot_range in
     let index : slot.index ≡ (block_at blocks slot.sb).used = next_index blocks slot next in
     let good : IsFalse (is_bad (block_at blocks slot.sb).state) = next_good blocks slot next in
     record {
       of_slot =
           sym (due.pages_due place.die slot.sb low.die low.superblock good
-          ∙ ap {B = ℕ} (λ (n : ℕ). due_pages dies.shape.dies slot.sb n place.die) (sym index) ∙ rise.of_slot);
+          ∙ ap {B = ℕ} (λ (n : ℕ). due_pages shape.dies slot.sb n place.die) (sym index) ∙ rise.of_slot);
       of_parity = λ last.
-          sym (due.pages_due parity.die slot.sb (parity_die-lt dies.shape.dies slot.sb (stripe_of_index dies.shape.dies slot.index) two) low.superblock good
-          ∙ ap {B = ℕ} (λ (n : ℕ). due_pages dies.shape.dies slot.sb n parity.die) (sym index) ∙ rise.of_parity);
+          sym (due.pages_due parity.die slot.sb (parity_die-lt shape.dies slot.sb (stripe_of_index shape.dies slot.index) two) low.superblock good
+          ∙ ap {B = ℕ} (λ (n : ℕ). due_pages shape.dies slot.sb n parity.die) (sym index) ∙ rise.of_parity);
     }
 
 -- the erases of the blocks of a superblock that isn't bad can be counted once more, where those of the table can
-pub can_count_erases : (blocks : List BlockBase) (dies : DiesState) (sb : ℕ) → AreDue dies.shape blocks dies.dies → sb < dies.shape.superblocks
-    → IsFalse (is_bad (block_at blocks sb).state) → (block_at blocks sb).erases < 2 ^ 32 - 1 → CanCountErases dies sb
-can_count_erases blocks dies sb due within good few die lt = omega (arith, due.erases_due die sb lt within good)
+pub can_count_erases : (shape : Shape) (blocks : List BlockBase) (dies : List DieState) (sb : ℕ) → AreDue shape blocks dies → sb < shape.superblocks
+    → IsFalse (is_bad (block_at blocks sb).state) → (block_at blocks sb).erases < 2 ^ 32 - 1 → CanCountErases shape.dies sb dies
+can_count_erases shape blocks dies sb due within good few die lt = omega (arith, due.erases_due die sb lt within good)
