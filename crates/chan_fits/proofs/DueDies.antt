@@ -107,21 +107,21 @@ pub next_used : (slots : ℕ) (blocks : List BlockBase) (slot : Slot) → next_s
     → with_next_used slots blocks ≡ set blocks slot.sb (with_slot_used slots (block_at blocks slot.sb))
 next_used slots blocks slot next = ap (used_in slots blocks) (slot_block blocks (next_superblock blocks) slot next)
 
-frontier_good : (state : SbState) → is_frontier state ≡ true → is_bad state ≡ false
+pub frontier_good : (state : SbState) → is_frontier state ≡ true → is_bad state ≡ false
 frontier_good SbState.Frontier e = refl
 frontier_good SbState.Bad e = absurd (grind (arith, e))
 frontier_good SbState.Free e = refl
 frontier_good SbState.Sealed e = refl
 frontier_good SbState.Victim e = refl
 
-free_good : (state : SbState) → is_free state ≡ true → is_bad state ≡ false
+pub free_good : (state : SbState) → is_free state ≡ true → is_bad state ≡ false
 free_good SbState.Frontier e = refl
 free_good SbState.Bad e = absurd (grind (arith, e))
 free_good SbState.Free e = refl
 free_good SbState.Sealed e = refl
 free_good SbState.Victim e = refl
 
-victim_good : (state : SbState) → is_victim state ≡ true → is_bad state ≡ false
+pub victim_good : (state : SbState) → is_victim state ≡ true → is_bad state ≡ false
 victim_good SbState.Frontier e = refl
 victim_good SbState.Bad e = absurd (grind (arith, e))
 victim_good SbState.Free e = refl

@@ -5,6 +5,7 @@ pub mod FirstSum
 pub mod FreshSums
 pub mod Frontiers
 pub mod PlacesInRange
+pub mod QuietFits
 pub mod SumsAfter
 pub mod ToldBlocks
 pub mod WeakDies
