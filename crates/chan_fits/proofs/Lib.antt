@@ -5,7 +5,10 @@ pub mod FirstSum
 pub mod FreshSums
 pub mod Frontiers
 pub mod PlacesInRange
+pub mod ProgramFits
+pub mod ProgramPages
 pub mod QuietFits
+pub mod SensedBits
 pub mod SumsAfter
 pub mod ToldBlocks
 pub mod WeakDies
