@@ -1,6 +1,7 @@
 pub mod BlockChanges
 pub mod DueAfter
 pub mod DueDies
+pub mod FailedFits
 pub mod FirstSum
 pub mod FreshSums
 pub mod Frontiers
