@@ -1,10 +1,12 @@
 pub mod BlockChanges
 pub mod DueAfter
 pub mod DueDies
+pub mod EraseFits
 pub mod FailedFits
 pub mod FirstSum
 pub mod FreshSums
 pub mod Frontiers
+pub mod KeptSums
 pub mod PlacesInRange
 pub mod ProgramFits
 pub mod ProgramPages
