@@ -1,3 +1,4 @@
+pub mod AgeFits
 pub mod BlockChanges
 pub mod DueAfter
 pub mod DueDies
@@ -12,6 +13,7 @@ pub mod ProgramFits
 pub mod ProgramPages
 pub mod QuietFits
 pub mod SensedBits
+pub mod StartFits
 pub mod SumsAfter
 pub mod ToldBlocks
 pub mod WeakDies

@@ -1,7 +1,7 @@
 -- Do the dies of a channel hold what its past says? Each die has its plan, each page the levels that the past gives it,
 -- each superblock that isn't bad its erases, and the counts of faults rose as the entries tell. Superblocks that are kept
 -- as a table are due in the dies where each die has the pages and the erases that the table asks of it.
-use Rattle.std.specs.Prelude.{ℕ, ◌≡◌, ◌<◌, IsTrue, IsFalse, List, length, ℤ, slice_get, Option, Some, option_map}
+use Rattle.std.specs.Prelude.{ℕ, ◌≡◌, ◌<◌, IsTrue, IsFalse, List, [], length, ℤ, slice_get, slice_index_or, Option, Some, option_map}
 use Rattle.ssd_geo.specs.BlockCells.{cells_at}
 use Rattle.ssd_geo.specs.Coding.{coding_of}
 use Rattle.ssd_geo.specs.Superblock.{due_pages}
@@ -9,12 +9,12 @@ use Rattle.ssd_histories.specs.Blocks.{block_at}
 use Rattle.ssd_histories.specs.PastBlocks.{erases_of, state_of}
 use Rattle.ssd_histories.specs.PastPages.{page_of, running_sum}
 use Rattle.ssd_histories.specs.Ranges.{has_place}
-use Rattle.ssd_histories.specs.Standing.{CountsFaults}
+use Rattle.ssd_histories.specs.Standing.{CountsFaults, count_at}
 use Rattle.ssd_histories.specs.Start.{Start}
 use Rattle.ssd_histories.specs.States.{is_bad}
 use Rattle.onfi_cmd.specs.DieState.{DieState, programmed_in}
 use Rattle.onfi_cmd.specs.declared.plan.DiePlan.{DiePlan}
-use Rattle.chan_dies.specs.DiesState.{blocks_told, die_at}
+use Rattle.chan_dies.specs.DiesState.{blocks_in, blocks_told, die_at}
 use Rattle.ssd_geo.specs.declared.base.BlockBase.{BlockBase}
 use Rattle.ssd_geo.specs.declared.base.ChannelBase.{ChannelBase}
 use Rattle.ssd_geo.specs.declared.entry.Entry.{Entry}
@@ -60,3 +60,15 @@ pub record AreDue (shape : Shape) (blocks : List BlockBase) (dies : List DieStat
   pub erases_due :
       (die sb : ℕ) → die < shape.dies → sb < shape.superblocks → IsFalse (is_bad (block_at blocks sb).state)
       → told_erases dies die sb ≡ (block_at blocks sb).erases
+
+-- a die of a start: it has its plan, tells all its blocks, and these and its counts are the start's
+pub record TellsStart (start : Start) (die : ℕ) (state : DieState) : Type 0 where
+  pub plan_is : state.plan ≡ Some (plan_of start.base die)
+  pub blocks_are : blocks_in state ≡ slice_index_or start.cells die []
+  pub blocks_count : length (blocks_in state) ≡ start.base.shape.superblocks
+  pub works_are : state.work_count ≡ count_at start.work_faults die
+  pub loads_are : state.load_count ≡ count_at start.load_faults die
+
+-- the dies of a start
+abbrev pub TellStart : Start → List DieState → Type 0
+TellStart start dies = (die : ℕ) → die < start.base.shape.dies → TellsStart start die (die_at dies die)
