@@ -1,6 +1,7 @@
 -- What do the dies of a channel hold? Each die is mounted as the die of its number and tells its blocks; beside the dies
 -- stands the running sum of the channel's open stripe.
-use Rattle.std.specs.Prelude.{ℕ, ◌≡◌, ◌<◌, Bool, true, false, is_some, List, [], length, Option, Some, None, slice_index_or, ℤ, pos}
+use Rattle.std.specs.Prelude.{ℕ, ◌≡◌, ◌<◌, Bool, true, false, is_some, List, [], length, Option, Some, None}
+use Rattle.std.specs.Prelude.{slice_index_or, ℤ, pos}
 use Rattle.std.specs.Option.{unwrap_or}
 use Rattle.ssd_geo.specs.BlockCells.{BlockCells, cells_at}
 use Rattle.ssd_geo.specs.declared.place.Place.{Place}

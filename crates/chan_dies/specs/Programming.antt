@@ -45,7 +45,8 @@ pub record IsProgrammed (shape : Shape) (slot : Slot) (word sum : List ℕ) (old
       → die_at new other ≡ die_at old other
 
 -- the program stopped at the slot's die, to which this happened
-pub record StopsAtSlot (shape : Shape) (slot : Slot) (die : ℕ) (P : DieState → DieState → Type 0) (old new : List DieState) : Type 0 where
+pub record StopsAtSlot (shape : Shape) (slot : Slot) (die : ℕ) (P : DieState → DieState → Type 0)
+    (old new : List DieState) : Type 0 where
   pub is_slot : die ≡ (page_of_slot shape slot).die
   pub stopped : P (die_at old die) (die_at new die)
   pub others : OthersStay die old new
@@ -68,7 +69,8 @@ pub record StopsProgram (shape : Shape) (slot : Slot) (word : List ℕ) (die : �
 -- what became of the dies, as the program ended
 abbrev pub EndsProgram : Shape → Slot → List ℕ → List ℕ → List DieState → List DieState → ProgramEnd → Type 0
 EndsProgram shape slot word sum old new ProgramEnd.Programmed = IsProgrammed shape slot word sum old new
-EndsProgram shape slot word sum old new (ProgramEnd.Failed die) = StopsProgram shape slot word die (RefusesBlock slot.sb) old new
+EndsProgram shape slot word sum old new (ProgramEnd.Failed die) =
+    StopsProgram shape slot word die (RefusesBlock slot.sb) old new
 EndsProgram shape slot word sum old new (ProgramEnd.Fault die) = StopsProgram shape slot word die FaultsDie old new
 
 -- the running sum after a program, from the sum with its word: zeros after the last slot of a stripe, and where the

@@ -95,7 +95,7 @@ page_by_none start contents past sum sb old new place below fit range outside sa
 
 -- ---- an erase of the victim
 
-erased_counted : (bound sb : ℕ) (old new : List DieState) → ErasesBelow bound sb old new → (die : ℕ) → die < bound → StaysCounted (die_at old die) (die_at new die)
+pub erased_counted : (bound sb : ℕ) (old new : List DieState) → ErasesBelow bound sb old new → (die : ℕ) → die < bound → StaysCounted (die_at old die) (die_at new die)
 erased_counted bound sb old new below die lt = record {
   plan_stays = (below die lt).holds.plan_stays;
   works_stay = (below die lt).holds.works_stay;
@@ -160,9 +160,9 @@ unerased_with start contents past entry sb die sum P old new after due tells sto
     test_not a b le = grind (arith, nat_tests)
 
 -- the plans and counts of the dies but the one that stopped
-others_counted : (count sb die : ℕ) (P : DieState → DieState → Type 0) (old new : List DieState) → StopsErase count sb die P old new
+pub other_dies_counted : (count sb die : ℕ) (P : DieState → DieState → Type 0) (old new : List DieState) → StopsErase count sb die P old new
     → (other : ℕ) → other ≢ die → StaysCounted (die_at old other) (die_at new other)
-others_counted count sb die P old new stops other far =
+other_dies_counted count sb die P old new stops other far =
     by_order (StaysCounted (die_at old other) (die_at new other)) other die
     (λ lt. erased_counted die sb old new stops.below other lt)
     (λ here. absurd (far here))
@@ -180,7 +180,7 @@ bad_erase_fits ladder start contents past tag sb die sum old new lawful due stop
     fits_counted start contents past entry old new sum sum fit (λ other. refl)
     (λ other lt. elim (cases_eq other die) [
       | inl here ↦ subst (λ (n : ℕ). StaysCounted (die_at old n) (die_at new n)) (sym here) (kept_counted (die_at old die) (die_at new die) stops.stopped.keeps)
-      | inr far ↦ others_counted start.base.shape.dies sb die (RefusesBlock sb) old new stops other far
+      | inr far ↦ other_dies_counted start.base.shape.dies sb die (RefusesBlock sb) old new stops other far
     ])
     there.pages there.due
     (fit.sum_is ∙ sym (bad_erase_sum start contents past tag sb die false lawful.1.meets.may_erase.is_victim after))
@@ -195,7 +195,7 @@ fault_erase_fits ladder start contents past tag sb die sum old new lawful due st
     let after : blocks_of start.base (entry ∷ past) ≡ with_retired (blocks_of start.base past) sb = blocks_after_entry ladder start.base entry past lawful in
     let there : UnerasedWith start contents past entry sb die sum new = unerased_with start contents past entry sb die sum FaultsDie old new after due faulted_tells stops fit in
     fits_faulted start contents past entry die old new sum sum fit (λ other. refl) stops.stopped
-    (λ other lt far. others_counted start.base.shape.dies sb die FaultsDie old new stops other far)
+    (λ other lt far. other_dies_counted start.base.shape.dies sb die FaultsDie old new stops other far)
     there.pages there.due
     (fit.sum_is ∙ sym (bad_erase_sum start contents past tag sb die true lawful.1.meets.may_erase.is_victim after))
 

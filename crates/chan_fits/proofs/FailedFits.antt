@@ -177,7 +177,7 @@ pub faulted_tells : TellsTheSame FaultsDie
 faulted_tells old new faults = told_faulted old new faults
 
 -- the plans and counts of the dies but the one that stopped
-others_counted : (start : Start) (slot : Slot) (word : List ℕ) (die : ℕ) (P : DieState → DieState → Type 0) (old new : List DieState) → StopsProgram start.base.shape slot word die P old new
+pub others_counted : (start : Start) (slot : Slot) (word : List ℕ) (die : ℕ) (P : DieState → DieState → Type 0) (old new : List DieState) → StopsProgram start.base.shape slot word die P old new
     → (other : ℕ) → other ≢ die → StaysCounted (die_at old other) (die_at new other)
 others_counted start slot word die P old new stops other far = elim (stops.stops) [
   | inl first ↦ same_counted (die_at old other) (die_at new other) (first.others other far)
@@ -193,7 +193,7 @@ others_counted start slot word die P old new stops other far = elim (stops.stops
   ]
 ]
 
-stopped_there : (start : Start) (slot : Slot) (word : List ℕ) (die : ℕ) (P : DieState → DieState → Type 0) (old new : List DieState) → StopsProgram start.base.shape slot word die P old new
+pub stopped_there : (start : Start) (slot : Slot) (word : List ℕ) (die : ℕ) (P : DieState → DieState → Type 0) (old new : List DieState) → StopsProgram start.base.shape slot word die P old new
     → P (die_at old die) (die_at new die)
 stopped_there start slot word die P old new stops = elim (stops.stops) [ inl first ↦ first.stopped | inr second ↦ second.stopped ]
 
@@ -228,7 +228,7 @@ middle_holds false true d e = refl
 middle_holds false false d e = absurd (grind (arith, e))
 
 -- the plans and counts of all dies, where a block answered FAIL
-refused_counted : (start : Start) (slot : Slot) (word : List ℕ) (die : ℕ) (old new : List DieState) → StopsProgram start.base.shape slot word die (RefusesBlock slot.sb) old new
+pub refused_counted : (start : Start) (slot : Slot) (word : List ℕ) (die : ℕ) (old new : List DieState) → StopsProgram start.base.shape slot word die (RefusesBlock slot.sb) old new
     → (other : ℕ) → StaysCounted (die_at old other) (die_at new other)
 refused_counted start slot word die old new stops other = elim (cases_eq other die) [
   | inl here ↦

@@ -2,6 +2,7 @@ pub mod AgeFits
 pub mod BlockChanges
 pub mod DueAfter
 pub mod DueDies
+pub mod EndedPrograms
 pub mod EraseFits
 pub mod FailedFits
 pub mod FirstSum

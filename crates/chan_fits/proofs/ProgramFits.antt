@@ -60,7 +60,7 @@ may_program start contents past slot old sum next range due fit = record {
 }
 
 -- the plans and counts of all dies stay where the slot was programmed
-programmed_counted : (start : Start) (slot : Slot) (word total : List ℕ) (old new : List DieState) → IsProgrammed start.base.shape slot word total old new
+pub programmed_counted : (start : Start) (slot : Slot) (word total : List ℕ) (old new : List DieState) → IsProgrammed start.base.shape slot word total old new
     → (die : ℕ) → StaysCounted (die_at old die) (die_at new die)
 programmed_counted start slot word total old new is die = elim (cases_eq die (page_of_slot start.base.shape slot).die) [
   | inl here ↦ put_counted (page_of_slot start.base.shape slot) word here is.slot_page
