@@ -201,7 +201,7 @@ fault_erase_fits ladder start contents past tag sb die sum old new lawful due st
 
 -- ---- a pick
 
-sealed_good : (state : SbState) → is_sealed state ≡ true → is_bad state ≡ false
+pub sealed_good : (state : SbState) → is_sealed state ≡ true → is_bad state ≡ false
 sealed_good SbState.Sealed e = refl
 sealed_good SbState.Bad e = absurd (grind (arith, e))
 sealed_good SbState.Free e = refl

@@ -6,7 +6,7 @@ use Rattle.std.specs.List.{list_any}
 use Rattle.std.proofs.lemmas.Bool.{cases_eq}
 use Rattle.std.proofs.lemmas.Bool.Decides.{nat_tests}
 use Rattle.ssd_geo.specs.Coding.{coding_of, word_bytes_in}
-use Rattle.ssd_geo.specs.Ladder.{LadderState, recovered, word_recovered}
+use Rattle.ssd_geo.specs.Ladder.{LadderState, word_recovered}
 use Rattle.ssd_geo.specs.Stripe.{parity_die, place_of_slot, stripe_of_index}
 use Rattle.ssd_geo.specs.StripeSum.{zero_word}
 use Rattle.ssd_geo.specs.declared.base.BlockBase.{BlockBase}
@@ -277,19 +277,19 @@ fault_write_fits ladder start contents past tag row slot die word sum old new is
     there.pages there.due there.sums
 
 -- after a lawful copy that failed, where a block answered FAIL
-pub bad_copy_fits : (ladder : List Entry → ℕ → LadderState) (start : Start) (contents : List (Tag × List ℕ)) (past : List Entry) (tag : Tag) (at : ℕ) (slot : Slot) (rung : ℕ) (die : ℕ) (word sum : List ℕ) (old new : List DieState)
+pub bad_copy_fits : (ladder : List Entry → ℕ → LadderState) (start : Start) (contents : List (Tag × List ℕ)) (past : List Entry) (tag : Tag) (at : ℕ) (slot : Slot) (die : ℕ) (word sum : List ℕ) (old new : List DieState)
     → IsStart start → IsLawfulBy ladder start.base (made tag (Kind.BadCopy at slot die false) ∷ past)
-    → ladder_of (coding_of start.base) start contents past at ≡ recovered rung word
+    → word ≡ word_recovered (ladder_of (coding_of start.base) start contents past at)
     → AreDue start.base.shape (blocks_of start.base past) old
     → StopsProgram start.base.shape slot word die (RefusesBlock slot.sb) old new
     → DiesFit start contents past old sum
     → DiesFit start contents (made tag (Kind.BadCopy at slot die false) ∷ past) new (zero_word (word_bytes_in start.base.shape))
-bad_copy_fits ladder start contents past tag at slot rung die word sum old new is_start lawful word_is due stops fit =
+bad_copy_fits ladder start contents past tag at slot die word sum old new is_start lawful word_is due stops fit =
     let next : next_slot start.base past ≡ Some slot = 
     of_some (open_look past tag at) (λ look. IsLawfulBadCopy (ladder past at) start.base past look slot die false) (λ look copy. copy.is_failed.is_next) lawful.1.meets in
     let range : has_slot start.base.shape slot ≡ true = first_holds (has_slot start.base.shape slot) (nat_lt die start.base.shape.dies) lawful.1.in_range in
     let there : StoppedWith start contents past (made tag (Kind.BadCopy at slot die false)) slot (word_recovered (ladder_of (coding_of start.base) start contents past at)) die new =
-    subst (λ (w : List ℕ). StoppedWith start contents past (made tag (Kind.BadCopy at slot die false)) slot w die new) (sym (ap {B = List ℕ} word_recovered word_is))
+    subst (λ (w : List ℕ). StoppedWith start contents past (made tag (Kind.BadCopy at slot die false)) slot w die new) word_is
     (stopped_with ladder start contents past (made tag (Kind.BadCopy at slot die false)) slot word sum die (RefusesBlock slot.sb) old new is_start lawful.0 next range
     (λ k. refl) (blocks_after_entry ladder start.base (made tag (Kind.BadCopy at slot die false)) past lawful) due (refused_tells slot.sb) stops fit) in
     fits_counted start contents past (made tag (Kind.BadCopy at slot die false)) old new sum (zero_word (word_bytes_in start.base.shape)) fit (λ other. refl)
@@ -297,19 +297,19 @@ bad_copy_fits ladder start contents past tag at slot rung die word sum old new i
     there.pages there.due there.sums
 
 -- where a die's call failed
-pub fault_copy_fits : (ladder : List Entry → ℕ → LadderState) (start : Start) (contents : List (Tag × List ℕ)) (past : List Entry) (tag : Tag) (at : ℕ) (slot : Slot) (rung : ℕ) (die : ℕ) (word sum : List ℕ) (old new : List DieState)
+pub fault_copy_fits : (ladder : List Entry → ℕ → LadderState) (start : Start) (contents : List (Tag × List ℕ)) (past : List Entry) (tag : Tag) (at : ℕ) (slot : Slot) (die : ℕ) (word sum : List ℕ) (old new : List DieState)
     → IsStart start → IsLawfulBy ladder start.base (made tag (Kind.BadCopy at slot die true) ∷ past)
-    → ladder_of (coding_of start.base) start contents past at ≡ recovered rung word
+    → word ≡ word_recovered (ladder_of (coding_of start.base) start contents past at)
     → AreDue start.base.shape (blocks_of start.base past) old
     → StopsProgram start.base.shape slot word die FaultsDie old new
     → DiesFit start contents past old sum
     → DiesFit start contents (made tag (Kind.BadCopy at slot die true) ∷ past) new (zero_word (word_bytes_in start.base.shape))
-fault_copy_fits ladder start contents past tag at slot rung die word sum old new is_start lawful word_is due stops fit =
+fault_copy_fits ladder start contents past tag at slot die word sum old new is_start lawful word_is due stops fit =
     let next : next_slot start.base past ≡ Some slot = 
     of_some (open_look past tag at) (λ look. IsLawfulBadCopy (ladder past at) start.base past look slot die true) (λ look copy. copy.is_failed.is_next) lawful.1.meets in
     let range : has_slot start.base.shape slot ≡ true = first_holds (has_slot start.base.shape slot) (nat_lt die start.base.shape.dies) lawful.1.in_range in
     let there : StoppedWith start contents past (made tag (Kind.BadCopy at slot die true)) slot (word_recovered (ladder_of (coding_of start.base) start contents past at)) die new =
-    subst (λ (w : List ℕ). StoppedWith start contents past (made tag (Kind.BadCopy at slot die true)) slot w die new) (sym (ap {B = List ℕ} word_recovered word_is))
+    subst (λ (w : List ℕ). StoppedWith start contents past (made tag (Kind.BadCopy at slot die true)) slot w die new) word_is
     (stopped_with ladder start contents past (made tag (Kind.BadCopy at slot die true)) slot word sum die FaultsDie old new is_start lawful.0 next range
     (λ k. refl) (blocks_after_entry ladder start.base (made tag (Kind.BadCopy at slot die true)) past lawful) due faulted_tells stops fit) in
     fits_faulted start contents past (made tag (Kind.BadCopy at slot die true)) die old new sum (zero_word (word_bytes_in start.base.shape)) fit (λ other. refl)

@@ -3,6 +3,7 @@ pub mod BlockChanges
 pub mod DueAfter
 pub mod DueDies
 pub mod EndedPrograms
+pub mod EntryFits
 pub mod EraseFits
 pub mod FailedFits
 pub mod FirstSum

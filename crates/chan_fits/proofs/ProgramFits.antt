@@ -4,7 +4,7 @@ use Rattle.std.specs.Prelude.{IsFalse, if◌then◌else◌, IsSomeAnd, nat_lt}
 use Rattle.std.proofs.lemmas.Bool.{cases_eq}
 use Rattle.ssd_geo.specs.Bits.{bytes_sum}
 use Rattle.ssd_geo.specs.Coding.{coding_of, word_bytes_in}
-use Rattle.ssd_geo.specs.Ladder.{LadderState, recovered, word_recovered}
+use Rattle.ssd_geo.specs.Ladder.{LadderState, word_recovered}
 use Rattle.ssd_geo.specs.Stripe.{is_last_of_stripe}
 use Rattle.ssd_geo.specs.StripeSum.{zero_word}
 use Rattle.ssd_geo.specs.declared.base.BlockBase.{BlockBase}
@@ -140,19 +140,19 @@ write_fits ladder start contents past tag row slot word sum after old new is_sta
     with_word.sums
 
 -- after a lawful copy of the word that its look's ladder recovered
-pub move_fits : (ladder : List Entry → ℕ → LadderState) (start : Start) (contents : List (Tag × List ℕ)) (past : List Entry) (tag : Tag) (at : ℕ) (slot : Slot) (rung : ℕ) (word sum after : List ℕ) (old new : List DieState)
+pub move_fits : (ladder : List Entry → ℕ → LadderState) (start : Start) (contents : List (Tag × List ℕ)) (past : List Entry) (tag : Tag) (at : ℕ) (slot : Slot) (word sum after : List ℕ) (old new : List DieState)
     → IsStart start → IsLawfulBy ladder start.base (made tag (Kind.Move at slot) ∷ past)
-    → ladder_of (coding_of start.base) start contents past at ≡ recovered rung word
+    → word ≡ word_recovered (ladder_of (coding_of start.base) start contents past at)
     → AreDue start.base.shape (blocks_of start.base past) old
     → IsProgrammed start.base.shape slot word (bytes_sum word sum) old new
     → after ≡ sum_after start.base.shape slot (bytes_sum word sum) ProgramEnd.Programmed
     → DiesFit start contents past old sum → DiesFit start contents (made tag (Kind.Move at slot) ∷ past) new after
-move_fits ladder start contents past tag at slot rung word sum after old new is_start lawful word_is due is after_is fit =
+move_fits ladder start contents past tag at slot word sum after old new is_start lawful word_is due is after_is fit =
     let next : next_slot start.base past ≡ Some slot =
     of_some (open_look past tag at) (λ look. IsLawfulMove (ladder past at) start.base past look slot) (λ look move. move.is_programmed.is_next) lawful.1.meets in
     let range : has_slot start.base.shape slot ≡ true = lawful.1.in_range in
     let with_word : FitWith start contents past tag 0 slot (word_recovered (ladder_of (coding_of start.base) start contents past at)) new after =
-    subst (λ (w : List ℕ). FitWith start contents past tag 0 slot w new after) (sym (ap {B = List ℕ} word_recovered word_is))
+    subst (λ (w : List ℕ). FitWith start contents past tag 0 slot w new after) word_is
     (program_fits ladder start contents past tag 0 slot word sum after old new is_start lawful.0 next range due is after_is fit) in
     fits_counted start contents past (made tag (Kind.Move at slot)) old new sum after fit (λ die. refl)
     (λ die lt. programmed_counted start slot word (bytes_sum word sum) old new is die)

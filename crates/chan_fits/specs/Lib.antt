@@ -1,1 +1,2 @@
 pub mod DiesFit
+pub mod FitLaws
