@@ -1,5 +1,5 @@
 -- The dies and the running sum fit a past after a block was aged.
-use Rattle.std.proofs.Common.{◌≡◌, ◌≢◌, ℕ, ◌<◌, ◌==◌, nat_lt, ◌&&◌, Bool, true, false, List, [], ◌∷◌, length, map, ℤ, refl, ap, sym, ◌∙◌, subst, Option, Some, None, arith, IsTrue, inl, inr}
+use Rattle.std.proofs.Common.{◌≡◌, ◌≢◌, ℕ, ◌<◌, ◌==◌, ◌&&◌, Bool, true, false, List, [], ◌∷◌, length, map, ℤ, refl, ap, sym, ◌∙◌, subst, Option, Some, None, arith, IsTrue, inl, inr}
 use Rattle.std.specs.Prelude.{option_map, slice_get}
 use Rattle.std.proofs.lemmas.Bool.{cases_eq}
 use Rattle.std.proofs.lemmas.Bool.Decides.{nat_tests}
@@ -20,10 +20,9 @@ use Rattle.onfi_cmd.specs.DieState.{DieState, with_aged}
 use Rattle.onfi_cmd.specs.declared.plan.DiePlan.{DiePlan}
 use Rattle.chan_dies.specs.DiesState.{blocks_told, die_at}
 use Rattle.chan_dies.specs.OneDie.{AgesBlock, ChangesDie, aged_by}
-use Rattle.chan_fits.specs.DiesFit.{AreDue, DiesFit, plan_of, told_page}
+use Rattle.chan_fits.specs.DiesFit.{AreDue, DiesFit, told_page}
 use Rattle.chan_fits.proofs.BlockChanges.{told_now, told_same}
 use Rattle.chan_fits.proofs.DueAfter.{due_aged}
-use Rattle.chan_fits.proofs.PlacesInRange.{place_in_range}
 use Rattle.chan_fits.proofs.ProgramPages.{changed_levels}
 use Rattle.chan_fits.proofs.QuietFits.{StaysCounted, fits_counted, page_stays, same_counted}
 use Rattle.chan_fits.proofs.ToldBlocks.{aged_elsewhere, aged_here}

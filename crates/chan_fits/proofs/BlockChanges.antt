@@ -1,17 +1,17 @@
 -- What programs, erases and ageing leave of the blocks that each die tells.
-use Rattle.std.proofs.Common.{◌≡◌, ◌≢◌, ℕ, ◌+◌, ◌<◌, ◌≤◌, ◌==◌, Bool, true, false, List, [], ◌∷◌, ◌++◌, ℤ, length, refl, ap, sym, ◌∙◌, subst, Option, Some, None, arith, length-set, inl, inr, ◌⊎◌}
-use Rattle.std.specs.Prelude.{unwrap_or, IsTrue}
+use Rattle.std.proofs.Common.{◌≡◌, ◌≢◌, ℕ, ◌+◌, ◌<◌, Bool, true, false, List, [], ◌∷◌, ◌++◌, ℤ, length, refl, ap, sym, ◌∙◌, subst, Option, arith, length-set, inl, inr}
+use Rattle.std.specs.Prelude.{unwrap_or}
 use Rattle.std.proofs.lemmas.Bool.{cases_eq, cases_lt}
 use Rattle.ssd_geo.specs.BlockCells.{BlockCells, cells_at}
-use Rattle.ssd_geo.specs.Stripe.{is_last_of_stripe, parity_die, place_of_parity, place_of_slot, stripe_of_index}
+use Rattle.ssd_geo.specs.Stripe.{is_last_of_stripe}
 use Rattle.ssd_geo.specs.declared.place.Place.{Place}
 use Rattle.ssd_geo.specs.declared.shape.Shape.{Shape}
 use Rattle.ssd_geo.specs.declared.slot.Slot.{Slot}
 use Rattle.onfi_cmd.specs.DieState.{DieState, with_erased, with_page}
-use Rattle.chan_dies.specs.DiesState.{DiesState, blocks_in, blocks_told, die_at, fresh_in}
-use Rattle.chan_dies.specs.Erasing.{ErasesBelow, ErasesFirst, StopsErase}
-use Rattle.chan_dies.specs.OneDie.{FaultsDie, HoldsNow, KeepsDie, PutsPage}
-use Rattle.chan_dies.specs.Programming.{IsProgrammed, PutsAt, StopsAtParity, StopsAtSlot, StopsProgram, page_of_slot, parity_of_slot}
+use Rattle.chan_dies.specs.DiesState.{blocks_in, blocks_told, die_at, fresh_in}
+use Rattle.chan_dies.specs.Erasing.{ErasesBelow, StopsErase}
+use Rattle.chan_dies.specs.OneDie.{FaultsDie, HoldsNow, KeepsDie}
+use Rattle.chan_dies.specs.Programming.{IsProgrammed, PutsAt, StopsProgram, page_of_slot, parity_of_slot}
 use Rattle.chan_fits.proofs.ToldBlocks.{erased_elsewhere, put_elsewhere}
 
 -- the blocks of a die but one are as they were, and as many

@@ -1,10 +1,8 @@
 -- The counts of a die's faults after one more entry: they stay, or the work count rose where the entry tells of a failed
 -- call of the die.
-use Rattle.std.proofs.Common.{◌≡◌, ◌≢◌, ℕ, ◌+◌, ◌≤◌, ◌==◌, cond, min, Bool, true, false, List, ◌∷◌, refl, ap, sym, ◌∙◌, subst, Option, Some, None, arith}
-use Rattle.std.proofs.lemmas.Bool.Decides.{nat_tests}
+use Rattle.std.proofs.Common.{◌≡◌, ℕ, ◌+◌, ◌≤◌, cond, min, Bool, true, false, List, ◌∷◌, ap, sym, ◌∙◌, subst, arith}
 use Rattle.std.proofs.lemmas.List.Sums.{sum_by-cons}
-use Rattle.ssd_geo.specs.Faults.{Rose, RoseBy, count_after, greatest_count}
-use Rattle.ssd_histories.specs.CallSteps.{failed_die}
+use Rattle.ssd_geo.specs.Faults.{Rose, RoseBy, greatest_count}
 use Rattle.ssd_histories.specs.Standing.{CountsFaults, count_at, faults_of, is_fault_of}
 use Rattle.ssd_histories.specs.Start.{Start}
 use Rattle.ssd_geo.specs.declared.entry.Entry.{Entry}

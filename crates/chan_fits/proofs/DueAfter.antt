@@ -1,12 +1,12 @@
 -- The superblocks of a table stay due in the dies after the next slot was programmed, after a superblock was erased, picked
 -- or retired, and after a block was aged.
-use Rattle.std.proofs.Common.{◌≡◌, ◌≢◌, ℕ, ◌+◌, ◌-◌, ◌<◌, ◌≤◌, ◌==◌, ◌&&◌, Bool, true, false, List, [], ◌∷◌, length, map, set, refl, ap, sym, ◌∙◌, subst, Option, Some, None, arith, inl, inr, IsTrue, ℤ, length-set}
+use Rattle.std.proofs.Common.{◌≡◌, ◌≢◌, ℕ, ◌+◌, ◌<◌, ◌≤◌, ◌==◌, ◌&&◌, Bool, true, false, List, [], length, map, refl, ap, sym, ◌∙◌, subst, Option, Some, None, arith, inl, inr, IsTrue, ℤ, length-set}
 use Rattle.std.specs.Prelude.{IsFalse, if◌then◌else◌}
 use Rattle.std.proofs.lemmas.Bool.{cases_eq}
 use Rattle.std.proofs.lemmas.Bool.Decides.{nat_tests}
 use Rattle.ssd_geo.specs.BlockCells.{BlockCells, cells_at}
 use Rattle.ssd_geo.specs.Cells.{aged_level}
-use Rattle.ssd_geo.specs.Stripe.{is_last_of_stripe, parity_die, place_of_parity, place_of_slot, stripe_of_index}
+use Rattle.ssd_geo.specs.Stripe.{is_last_of_stripe, stripe_of_index}
 use Rattle.ssd_geo.specs.StripeLaws.{due_after_one}
 use Rattle.ssd_geo.specs.Superblock.{due_pages}
 use Rattle.ssd_histories.specs.Blocks.{block_at, erased_block, next_slot_of, victim_block, victim_in, with_erased, with_next_used, with_slot_used, with_victim}
@@ -17,17 +17,16 @@ use Rattle.ssd_geo.specs.declared.place.Place.{Place}
 use Rattle.ssd_geo.specs.declared.shape.Shape.{Shape}
 use Rattle.ssd_geo.specs.declared.slot.Slot.{Slot}
 use Rattle.ssd_geo.proofs.Stripes.{due_pages_ends, due_pages_step}
-use Rattle.onfi_cmd.specs.DieState as Die
 use Rattle.onfi_cmd.specs.DieState.{DieState, programmed_in}
 use Rattle.onfi_cmd.specs.declared.plan.DiePlan.{DiePlan}
-use Rattle.chan_dies.specs.DiesState.{DiesState, blocks_in, blocks_told, die_at, fresh_in, programmed_at}
+use Rattle.chan_dies.specs.DiesState.{blocks_told, die_at, fresh_in}
 use Rattle.chan_dies.specs.Erasing.{ErasesFirst}
-use Rattle.chan_dies.specs.OneDie.{AgesBlock, ChangesDie, OthersStay, aged_by}
+use Rattle.chan_dies.specs.OneDie.{AgesBlock, OthersStay, aged_by}
 use Rattle.chan_dies.specs.Programming.{IsProgrammed, PutsAt, page_of_slot, parity_of_slot}
 use Rattle.chan_fits.specs.DiesFit.{AreDue, told_erases}
-use Rattle.chan_fits.proofs.BlockChanges.{KeepsOtherBlocks, apart, erased_below, erased_blocks, programmed_blocks, told_now, told_put, told_same}
-use Rattle.chan_fits.proofs.DueDies.{IsDueIn, due_but_one, next_good, next_index, next_used, victim_is_good}
-use Rattle.chan_fits.proofs.PlacesInRange.{HasPlaces, has_places}
+use Rattle.chan_fits.proofs.BlockChanges.{apart, erased_below, erased_blocks, programmed_blocks, told_now, told_put, told_same}
+use Rattle.chan_fits.proofs.DueDies.{due_but_one, next_good, next_index, next_used, victim_is_good}
+use Rattle.chan_fits.proofs.PlacesInRange.{has_places}
 use Rattle.chan_fits.proofs.ToldBlocks.{as_many_aged, erased_as_often, erased_here, erases_stay, one_page_more}
 
 -- ---- a program

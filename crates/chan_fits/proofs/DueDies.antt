@@ -1,17 +1,15 @@
 -- The superblocks of a table stay due in the dies, whatever an entry does to both.
-use Rattle.std.proofs.Common.{◌≡◌, ◌≢◌, ℕ, ◌+◌, ◌-◌, ◌^◌, ◌<◌, ◌≤◌, ◌==◌, ◌&&◌, ◌||◌, Bool, true, false, List, [], ◌∷◌, length, set, refl, ap, sym, ◌∙◌, subst, Option, Some, None, arith, get_or-set_same, inl, inr, IsTrue}
-use Rattle.std.specs.Prelude.{IsFalse, if◌then◌else◌, unwrap_or}
+use Rattle.std.proofs.Common.{◌≡◌, ◌≢◌, ℕ, ◌-◌, ◌^◌, ◌<◌, ◌≤◌, true, false, List, length, set, refl, ap, sym, ◌∙◌, subst, Option, Some, None, arith, get_or-set_same, inl, inr, IsTrue}
+use Rattle.std.specs.Prelude.{IsFalse, unwrap_or}
 use Rattle.std.proofs.lemmas.Bool.{cases_eq}
-use Rattle.std.proofs.lemmas.Bool.Decides.{nat_tests}
 use Rattle.std.specs.List.{list_all}
 use Rattle.std.proofs.lemmas.List.{get_or-set_other}
 use Rattle.std.proofs.lemmas.List.Quantifiers.{position-Some}
 use Rattle.ssd_geo.specs.BlockCells.{BlockCells, cells_at}
-use Rattle.ssd_geo.specs.Bits.{bytes_sum}
-use Rattle.ssd_geo.specs.Stripe.{is_last_of_stripe, parity_die, place_of_parity, place_of_slot, stripe_of_index}
-use Rattle.ssd_geo.specs.StripeLaws.{IsNextPage, IsPlace, due_after_one}
+use Rattle.ssd_geo.specs.Stripe.{place_of_parity, place_of_slot, stripe_of_index}
+use Rattle.ssd_geo.specs.StripeLaws.{IsNextPage, IsPlace}
 use Rattle.ssd_geo.specs.Superblock.{due_pages}
-use Rattle.ssd_histories.specs.Blocks.{blank_block, block_at, erased_block, first_some, freshest_of, frontier_of, is_freshest, is_frontier_block, is_no_fresher, is_victim_block, next_slot_of, next_superblock, retired_block, slot_after_used, slot_in, used_in, victim_block, victim_in, with_erased, with_next_used, with_retired, with_slot_used, with_victim}
+use Rattle.ssd_histories.specs.Blocks.{blank_block, block_at, first_some, freshest_of, frontier_of, is_freshest, is_frontier_block, is_no_fresher, is_victim_block, next_slot_of, next_superblock, retired_block, slot_after_used, slot_in, used_in, victim_in, with_next_used, with_retired, with_slot_used}
 use Rattle.ssd_histories.specs.Ranges.{has_slot}
 use Rattle.ssd_histories.specs.States.{is_bad, is_free, is_frontier, is_victim}
 use Rattle.ssd_geo.specs.declared.base.BlockBase.{BlockBase}
@@ -19,14 +17,13 @@ use Rattle.ssd_geo.specs.declared.place.Place.{Place}
 use Rattle.ssd_geo.specs.declared.shape.Shape.{Shape}
 use Rattle.ssd_geo.specs.declared.slot.Slot.{Slot}
 use Rattle.ssd_geo.specs.declared.superblock.SbState.{SbState}
-use Rattle.ssd_geo.proofs.Stripes.{due_pages_ends, due_pages_step, pages_rise, parity_die-lt}
+use Rattle.ssd_geo.proofs.Stripes.{pages_rise, parity_die-lt}
 use Rattle.ssd_histories.proofs.PinnedWords.{slot_block}
 use Rattle.ssd_histories.proofs.UsedSlots.{first_holds}
 use Rattle.onfi_cmd.specs.DieState.{DieState, programmed_in}
-use Rattle.chan_dies.specs.DiesState.{DiesState, blocks_told, die_at, programmed_at}
+use Rattle.chan_dies.specs.DiesState.{blocks_told}
 use Rattle.chan_dies.specs.Erasing.{CanCountErases}
-use Rattle.chan_dies.specs.OneDie.{HoldsNow}
-use Rattle.chan_dies.specs.Programming.{HasNextPages, IsProgrammed}
+use Rattle.chan_dies.specs.Programming.{HasNextPages}
 use Rattle.chan_fits.specs.DiesFit.{AreDue, told_erases}
 use Rattle.chan_fits.proofs.BlockChanges.{KeepsOtherBlocks}
 use Rattle.chan_fits.proofs.PlacesInRange.{HasPlaces, has_places, place_in_range}

@@ -1,7 +1,6 @@
 -- What a program of the next slot and an erase of the victim leave, however they ended: the entry that tells of it is lawful, the
 -- table stays due, and a fault was counted just by the die that the end names.
-use Rattle.std.proofs.Common.{◌≡◌, ◌≢◌, ℕ, ◌<◌, ◌≤◌, Bool, true, false, List, [], ◌∷◌, length, refl, ap, sym, ◌∙◌, subst, Option, Some, None, arith, IsTrue, inl, inr}
-use Rattle.std.specs.Prelude.{IsFalse}
+use Rattle.std.proofs.Common.{◌≡◌, ◌≢◌, ℕ, ◌<◌, true, false, List, length, sym, subst, Option, Some, None, arith, IsTrue, inl, inr}
 use Rattle.std.proofs.lemmas.Bool.{cases_eq, cases_lt}
 use Rattle.ssd_geo.specs.declared.base.BlockBase.{BlockBase}
 use Rattle.ssd_geo.specs.declared.base.ChannelBase.{ChannelBase}
@@ -17,13 +16,13 @@ use Rattle.ssd_histories.specs.Start.{Start}
 use Rattle.ssd_histories.specs.WeakDies.{dies_in, is_none_weak, may_fail_on}
 use Rattle.onfi_cmd.specs.DieState.{DieState}
 use Rattle.chan_dies.specs.DiesState.{die_at}
-use Rattle.chan_dies.specs.Erasing.{EndsErase, ErasesFirst, StopsErase}
+use Rattle.chan_dies.specs.Erasing.{EndsErase}
 use Rattle.chan_dies.specs.OneDie.{FaultsDie, RefusesBlock}
 use Rattle.chan_dies.specs.Programming.{EndsProgram, StopsProgram}
 use Rattle.chan_dies.specs.declared.ends.EraseEnd.{EraseEnd}
 use Rattle.chan_dies.specs.declared.ends.ProgramEnd.{ProgramEnd}
 use Rattle.chan_fits.specs.DiesFit.{AreDue, DiesFit}
-use Rattle.chan_fits.proofs.BlockChanges.{TellsTheSame, stopped_blocks, unerased_blocks}
+use Rattle.chan_fits.proofs.BlockChanges.{stopped_blocks, unerased_blocks}
 use Rattle.chan_fits.proofs.DueAfter.{due_erased, due_programmed}
 use Rattle.chan_fits.proofs.DueDies.{due_retired}
 use Rattle.chan_fits.proofs.EraseFits.{erased_counted, other_dies_counted}

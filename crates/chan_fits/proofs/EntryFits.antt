@@ -1,7 +1,6 @@
 -- The dies fit a past with one more entry of any kind, and the table stays due in them.
-use Rattle.std.proofs.Common.{◌≡◌, ℕ, ◌<◌, ◌&&◌, Bool, true, false, List, [], ◌∷◌, length, refl, ap, sym, ◌∙◌, subst, arith, IsTrue}
-use Rattle.std.specs.Prelude.{IsFalse, nat_lt}
-use Rattle.std.proofs.lemmas.Bool.Decides.{nat_tests}
+use Rattle.std.proofs.Common.{◌≡◌, ℕ, ◌&&◌, Bool, true, false, List, ◌∷◌, refl, sym, subst, arith}
+use Rattle.std.specs.Prelude.{nat_lt}
 use Rattle.ssd_geo.specs.Bits.{bytes_sum}
 use Rattle.ssd_geo.specs.Coding.{coding_of, word_bytes_in}
 use Rattle.ssd_geo.specs.Ladder.{LadderState}
@@ -11,7 +10,6 @@ use Rattle.ssd_geo.specs.declared.entry.Entry.{Entry}
 use Rattle.ssd_geo.specs.declared.kind.Kind.{Kind}
 use Rattle.ssd_geo.specs.declared.shape.Shape.{Shape}
 use Rattle.ssd_geo.specs.declared.tag.Tag.{Tag}
-use Rattle.ssd_histories.specs.BlockLaws.{blocks_after}
 use Rattle.ssd_histories.specs.Blocks.{block_at, with_victim}
 use Rattle.ssd_histories.specs.Lawful.{IsLawfulBy}
 use Rattle.ssd_histories.specs.PastBlocks.{blocks_of}
@@ -24,7 +22,7 @@ use Rattle.onfi_cmd.specs.DieState.{DieState}
 use Rattle.chan_dies.specs.DiesState.{die_at}
 use Rattle.chan_dies.specs.OneDie.{FaultsDie, RefusesBlock}
 use Rattle.chan_fits.specs.DiesFit.{AreDue, DiesFit}
-use Rattle.chan_fits.specs.FitLaws.{AllStay, DiesChange, DiesFitAfterEntry, DiesFitTheirStart, DueAfterEntry, DueTablesAllowSteps, SlotStopped, SumStays, TableAllows}
+use Rattle.chan_fits.specs.FitLaws.{AllStay, DiesChange, DiesFitAfterEntry, DiesFitTheirStart, DueAfterEntry, DueTablesAllowSteps, SumStays}
 use Rattle.chan_fits.proofs.AgeFits.{age_fits}
 use Rattle.chan_fits.proofs.BlockChanges.{stopped_blocks, told_kept, unerased_blocks}
 use Rattle.chan_fits.proofs.DueAfter.{due_aged, due_erased, due_picked, due_programmed}

@@ -1,11 +1,10 @@
 -- The dies and the running sum fit a past after an erase of the victim, and after one that stopped at a die; and after a
 -- superblock was picked.
-use Rattle.std.proofs.Common.{◌≡◌, ◌≢◌, ℕ, ◌+◌, ◌<◌, ◌≤◌, ◌==◌, nat_lt, ◌&&◌, Bool, true, false, List, [], ◌∷◌, length, ℤ, refl, ap, sym, ◌∙◌, subst, Option, Some, None, arith, IsTrue, inl, inr}
-use Rattle.std.specs.Prelude.{IsFalse, slice_get}
+use Rattle.std.proofs.Common.{◌≡◌, ◌≢◌, ℕ, ◌<◌, ◌≤◌, ◌==◌, nat_lt, ◌&&◌, Bool, true, false, List, [], ◌∷◌, length, ℤ, refl, ap, sym, ◌∙◌, subst, Option, Some, None, arith, IsTrue, inl, inr}
+use Rattle.std.specs.Prelude.{slice_get}
 use Rattle.std.proofs.lemmas.Bool.{cases_eq}
 use Rattle.std.proofs.lemmas.Bool.Decides.{nat_tests}
 use Rattle.ssd_geo.specs.BlockCells.{BlockCells, cells_at}
-use Rattle.ssd_geo.specs.Coding.{coding_of}
 use Rattle.ssd_geo.specs.Ladder.{LadderState}
 use Rattle.ssd_geo.specs.declared.base.BlockBase.{BlockBase}
 use Rattle.ssd_geo.specs.declared.entry.Entry.{Entry}

@@ -1,13 +1,12 @@
 -- The dies and the running sum fit a past after a program of the next slot stopped at a die: a write that failed, and a copy
 -- that did. The superblock is retired, so no stripe is open after it.
-use Rattle.std.proofs.Common.{◌≡◌, ◌≢◌, ℕ, ◌<◌, ◌==◌, ◌&&◌, ◌||◌, Bool, true, false, List, [], ◌∷◌, length, ℤ, refl, ap, sym, ◌∙◌, subst, Option, Some, None, arith, IsTrue, inl, inr}
-use Rattle.std.specs.Prelude.{IsFalse, nat_lt}
+use Rattle.std.proofs.Common.{◌≡◌, ◌≢◌, ℕ, ◌<◌, ◌==◌, ◌&&◌, ◌||◌, Bool, true, false, List, ◌∷◌, ℤ, refl, ap, sym, ◌∙◌, subst, Option, Some, None, arith, IsTrue, inl, inr}
+use Rattle.std.specs.Prelude.{nat_lt}
 use Rattle.std.specs.List.{list_any}
 use Rattle.std.proofs.lemmas.Bool.{cases_eq}
 use Rattle.std.proofs.lemmas.Bool.Decides.{nat_tests}
 use Rattle.ssd_geo.specs.Coding.{coding_of, word_bytes_in}
 use Rattle.ssd_geo.specs.Ladder.{LadderState, word_recovered}
-use Rattle.ssd_geo.specs.Stripe.{parity_die, place_of_slot, stripe_of_index}
 use Rattle.ssd_geo.specs.StripeSum.{zero_word}
 use Rattle.ssd_geo.specs.declared.base.BlockBase.{BlockBase}
 use Rattle.ssd_geo.specs.declared.base.ChannelBase.{ChannelBase}
@@ -32,11 +31,11 @@ use Rattle.ssd_histories.specs.States.{is_bad, is_frontier}
 use Rattle.ssd_histories.proofs.BlockSteps.{blocks_after_entry}
 use Rattle.ssd_histories.proofs.FreshSlots.{same_place}
 use Rattle.ssd_histories.proofs.OneOfEach.{found_block, one_frontier}
-use Rattle.ssd_histories.proofs.UsedSlots.{first_holds, made, of_some, second_holds}
+use Rattle.ssd_histories.proofs.UsedSlots.{first_holds, made, of_some}
 use Rattle.onfi_cmd.specs.DieState.{DieState}
 use Rattle.chan_dies.specs.DiesState.{blocks_told, die_at}
 use Rattle.chan_dies.specs.OneDie.{FaultsDie, RefusesBlock}
-use Rattle.chan_dies.specs.Programming.{PutsAt, StopsAtParity, StopsAtSlot, StopsProgram, page_of_slot, parity_of_slot}
+use Rattle.chan_dies.specs.Programming.{StopsAtParity, StopsAtSlot, StopsProgram, page_of_slot, parity_of_slot}
 use Rattle.chan_fits.specs.DiesFit.{AreDue, DiesFit, told_page}
 use Rattle.chan_fits.proofs.BlockChanges.{TellsTheSame, stopped_blocks, told_faulted, told_kept, told_same}
 use Rattle.chan_fits.proofs.DueAfter.{dies_differ}

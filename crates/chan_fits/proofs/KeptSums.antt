@@ -1,5 +1,5 @@
 -- The running sum stays where another superblock than the frontier is erased, retired or picked.
-use Rattle.std.proofs.Common.{◌≡◌, ℕ, zero, suc, ◌+◌, ◌-◌, ◌/◌, ◌%◌, ◌<◌, ◌==◌, nat_lt, cond, not, Bool, true, false, List, [], ◌∷◌, get_or, set, refl, ap, sym, ◌∙◌, subst, Option, Some, None, length-set}
+use Rattle.std.proofs.Common.{◌≡◌, ℕ, zero, suc, ◌+◌, ◌-◌, ◌/◌, ◌%◌, ◌==◌, nat_lt, cond, not, Bool, true, false, List, [], ◌∷◌, get_or, set, refl, ap, sym, ◌∙◌, subst, Option, Some, None, length-set}
 use Rattle.std.specs.Prelude.{if◌then◌else◌, position}
 use Rattle.std.specs.List.{position_or_len, prefix_len}
 use Rattle.std.proofs.Common.{arith}

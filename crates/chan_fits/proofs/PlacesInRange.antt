@@ -1,5 +1,5 @@
 -- Slots and places in range: what the tests say. A slot's page and its stripe's parity are two pages of the channel.
-use Rattle.std.proofs.Common.{◌≡◌, ◌≢◌, ℕ, ◌<◌, ◌≤◌, ◌&&◌, arith, IsTrue}
+use Rattle.std.proofs.Common.{◌≢◌, ◌<◌, ◌≤◌, arith, IsTrue}
 use Rattle.std.proofs.lemmas.Bool.Decides.{nat_tests}
 use Rattle.ssd_histories.specs.Ranges.{has_place, has_slot}
 use Rattle.ssd_geo.specs.Stripe.{place_of_parity, place_of_slot, stripe_of_index}

@@ -1,6 +1,6 @@
 -- The dies and the running sum fit a past after the next slot was programmed: after a write, and after a copy.
-use Rattle.std.proofs.Common.{◌≡◌, ◌≢◌, ℕ, ◌<◌, ◌&&◌, Bool, true, false, List, [], ◌∷◌, length, ℤ, refl, ap, sym, ◌∙◌, subst, Option, Some, None, arith, IsTrue, inl, inr}
-use Rattle.std.specs.Prelude.{IsFalse, if◌then◌else◌, IsSomeAnd, nat_lt}
+use Rattle.std.proofs.Common.{◌≡◌, ◌≢◌, ℕ, Bool, true, false, List, ◌∷◌, length, refl, sym, ◌∙◌, subst, Some, IsTrue, inl, inr}
+use Rattle.std.specs.Prelude.{if◌then◌else◌, nat_lt}
 use Rattle.std.proofs.lemmas.Bool.{cases_eq}
 use Rattle.ssd_geo.specs.Bits.{bytes_sum}
 use Rattle.ssd_geo.specs.Coding.{coding_of, word_bytes_in}
@@ -30,10 +30,10 @@ use Rattle.ssd_histories.proofs.OneOfEach.{one_frontier}
 use Rattle.ssd_histories.proofs.UsedSlots.{made, of_some, second_holds}
 use Rattle.std.proofs.lemmas.List.FromFn.{length-map-range_with_len}
 use Rattle.onfi_cmd.specs.DieState.{DieState}
-use Rattle.chan_dies.specs.DiesState.{DiesState, die_at}
+use Rattle.chan_dies.specs.DiesState.{die_at}
 use Rattle.chan_dies.specs.Programming.{IsProgrammed, PutsAt, page_of_slot, parity_of_slot, sum_after}
 use Rattle.chan_dies.specs.declared.ends.ProgramEnd.{ProgramEnd}
-use Rattle.chan_fits.specs.DiesFit.{AreDue, DiesFit, stored_levels, told_page}
+use Rattle.chan_fits.specs.DiesFit.{AreDue, DiesFit, told_page}
 use Rattle.chan_fits.proofs.BlockChanges.{apart}
 use Rattle.chan_fits.proofs.DueAfter.{due_programmed}
 use Rattle.chan_fits.proofs.DueDies.{has_next_pages}

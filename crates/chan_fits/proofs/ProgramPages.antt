@@ -11,22 +11,20 @@ use Rattle.ssd_geo.specs.Noise.{number_of_page}
 use Rattle.ssd_geo.specs.Stripe.{is_last_of_stripe, place_of_parity, place_of_slot, stripe_of_index}
 use Rattle.ssd_geo.specs.declared.entry.Entry.{Entry}
 use Rattle.ssd_geo.specs.declared.place.Place.{Place}
-use Rattle.ssd_geo.specs.declared.shape.Shape.{Shape}
 use Rattle.ssd_geo.specs.declared.slot.Slot.{Slot}
 use Rattle.ssd_geo.specs.declared.tag.Tag.{Tag}
-use Rattle.ssd_histories.specs.PastBlocks.{erases_of, state_of}
+use Rattle.ssd_histories.specs.PastBlocks.{state_of}
 use Rattle.ssd_histories.specs.PastPages.{PageChange, StoredPage, programs, programs_parity, empties, ages, leaves, aged_page, change_by_program, fresh_page, is_place, page_of}
 use Rattle.ssd_histories.specs.Ranges.{has_place, has_slot}
 use Rattle.ssd_histories.specs.Start.{Start}
 use Rattle.ssd_histories.specs.States.{is_bad}
 use Rattle.ssd_histories.proofs.FreshSlots.{same_place}
-use Rattle.onfi_cmd.specs.DieState.{DieState, programmed_in, with_page}
+use Rattle.onfi_cmd.specs.DieState.{DieState, with_page}
 use Rattle.onfi_cmd.specs.declared.plan.DiePlan.{DiePlan}
 use Rattle.chan_dies.specs.DiesState.{blocks_told, die_at, fresh_in, programmed_at, programmed_by}
 use Rattle.chan_dies.specs.Programming.{ClosesStripe, HasNextPages, IsProgrammed, PutsAt, page_of_slot, parity_of_slot}
-use Rattle.chan_fits.specs.DiesFit.{DiesFit, stored_levels, told_page}
+use Rattle.chan_fits.specs.DiesFit.{DiesFit, told_page}
 use Rattle.chan_fits.proofs.BlockChanges.{apart, told_put, told_same}
-use Rattle.chan_fits.proofs.DueAfter.{dies_differ}
 use Rattle.chan_fits.proofs.PlacesInRange.{HasPlaces, has_places, place_in_range}
 use Rattle.chan_fits.proofs.QuietFits.{page_stays}
 use Rattle.chan_fits.proofs.SumsAfter.{sum_at}

@@ -1,6 +1,6 @@
 -- The dies and the running sum fit a past after an entry that programs, erases and ages nothing, where the dies keep what
 -- they tell: after a look, a leave or a trim, a sense or one that failed, and whatever else is only told.
-use Rattle.std.proofs.Common.{◌≡◌, ◌≢◌, ℕ, ◌<◌, ◌==◌, nat_lt, ◌&&◌, Bool, true, false, List, [], ◌∷◌, length, set, ℤ, refl, ap, sym, ◌∙◌, subst, Option, Some, None, arith, IsTrue, inl, inr}
+use Rattle.std.proofs.Common.{◌≡◌, ◌≢◌, ℕ, ◌<◌, ◌==◌, true, false, List, ◌∷◌, ℤ, refl, ap, sym, ◌∙◌, subst, Option, Some, arith, IsTrue, inl, inr}
 use Rattle.std.specs.Prelude.{IsFalse, slice_get}
 use Rattle.std.proofs.lemmas.Bool.{cases_eq}
 use Rattle.std.proofs.lemmas.Bool.Decides.{nat_tests}
@@ -12,9 +12,8 @@ use Rattle.ssd_geo.specs.declared.entry.Entry.{Entry}
 use Rattle.ssd_geo.specs.declared.kind.Kind.{Kind}
 use Rattle.ssd_geo.specs.declared.place.Place.{Place}
 use Rattle.ssd_geo.specs.declared.tag.Tag.{Tag}
-use Rattle.ssd_histories.specs.Blocks.{block_at}
-use Rattle.ssd_histories.specs.PastBlocks.{block_of, blocks_of, erases_of, is_bad_superblock, state_of}
-use Rattle.ssd_histories.specs.PastPages.{page_of, running_sum}
+use Rattle.ssd_histories.specs.PastBlocks.{blocks_of, erases_of, state_of}
+use Rattle.ssd_histories.specs.PastPages.{running_sum}
 use Rattle.ssd_histories.specs.Ranges.{has_place}
 use Rattle.ssd_histories.specs.Standing.{CountsFaults, is_fault_of}
 use Rattle.ssd_histories.specs.Start.{Start}

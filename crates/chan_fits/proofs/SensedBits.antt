@@ -1,5 +1,5 @@
 -- What the dies tell of a page is what the past says, so a sense of it gives the bits that the past gives.
-use Rattle.std.proofs.Common.{◌≡◌, ℕ, List, [], ◌∷◌, ℤ, refl, ap, sym, ◌∙◌, Option, Some, None, IsTrue}
+use Rattle.std.proofs.Common.{◌≡◌, ℕ, List, ℤ, refl, ap, sym, ◌∙◌, Option, Some, None, IsTrue}
 use Rattle.std.specs.Prelude.{option_map, unwrap_or}
 use Rattle.std.proofs.lemmas.Option.{unwrap_or-slice_get}
 use Rattle.ssd_geo.specs.BlockCells.{cells_at}
@@ -15,7 +15,7 @@ use Rattle.ssd_histories.specs.Start.{Start, empty_levels}
 use Rattle.onfi_cmd.specs.DieState.{DieState}
 use Rattle.onfi_cmd.specs.declared.plan.DiePlan.{DiePlan}
 use Rattle.chan_dies.specs.DiesState.{blocks_told, levels_at, levels_by}
-use Rattle.chan_fits.specs.DiesFit.{DiesFit, told_page}
+use Rattle.chan_fits.specs.DiesFit.{DiesFit}
 use Rattle.chan_fits.proofs.PlacesInRange.{place_in_range}
 
 levels_stored : (base : ChannelBase) (page : Option StoredPage) → unwrap_or (option_map (λ stored. stored.levels) page) (empty_levels base) ≡ levels_in base page

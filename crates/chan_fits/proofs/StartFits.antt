@@ -1,10 +1,9 @@
 -- The dies and the running sum fit the start that their blocks and counts give, and its superblocks are due in them.
-use Rattle.std.proofs.Common.{◌≡◌, ℕ, ◌+◌, ◌<◌, ◌≤◌, min, not, Bool, true, false, List, [], length, ℤ, refl, ap, sym, ◌∙◌, subst, Option, Some, None, arith, IsTrue}
-use Rattle.std.specs.Prelude.{IsFalse, option_map, slice_get, slice_index_or}
+use Rattle.std.proofs.Common.{◌≡◌, ℕ, ◌+◌, ◌≤◌, min, not, Bool, List, [], ℤ, refl, ap, ◌∙◌, subst, Option, Some, None, arith}
+use Rattle.std.specs.Prelude.{IsFalse, option_map, slice_get}
 use Rattle.ssd_geo.specs.BlockCells.{BlockCells, cells_at}
 use Rattle.ssd_geo.specs.Faults.{greatest_count}
 use Rattle.ssd_geo.specs.declared.base.BlockBase.{BlockBase}
-use Rattle.ssd_geo.specs.declared.place.Place.{Place}
 use Rattle.ssd_geo.specs.declared.superblock.SbState.{SbState}
 use Rattle.ssd_geo.specs.declared.tag.Tag.{Tag}
 use Rattle.ssd_histories.specs.Blocks.{block_at}
@@ -13,8 +12,8 @@ use Rattle.ssd_histories.specs.Standing.{IsStart, count_at}
 use Rattle.ssd_histories.specs.Start.{Start, cells_at_start}
 use Rattle.ssd_histories.specs.States.{is_bad}
 use Rattle.onfi_cmd.specs.DieState.{DieState, programmed_in}
-use Rattle.chan_dies.specs.DiesState.{blocks_told, die_at}
-use Rattle.chan_fits.specs.DiesFit.{AreDue, DiesFit, TellStart, plan_of, told_erases}
+use Rattle.chan_dies.specs.DiesState.{die_at}
+use Rattle.chan_fits.specs.DiesFit.{AreDue, DiesFit, TellStart}
 use Rattle.chan_fits.proofs.FirstSum.{sum_at_start}
 use Rattle.chan_fits.proofs.Frontiers.{state_at_start}
 use Rattle.chan_fits.proofs.PlacesInRange.{place_in_range}
