@@ -1,5 +1,6 @@
 -- The dies and the running sum fit a past after a block was aged.
-use Rattle.std.proofs.Common.{◌≡◌, ◌≢◌, ℕ, ◌<◌, ◌==◌, ◌&&◌, Bool, true, false, List, [], ◌∷◌, length, map, ℤ, refl, ap, sym, ◌∙◌, subst, Option, Some, None, arith, IsTrue, inl, inr}
+use Rattle.std.proofs.Common.{◌≡◌, ◌≢◌, ℕ, ◌<◌, ◌==◌, ◌&&◌, Bool, true, false, List, [], ◌∷◌, length, map, ℤ, refl, ap, sym}
+use Rattle.std.proofs.Common.{◌∙◌, subst, Option, Some, None, arith, IsTrue, inl, inr}
 use Rattle.std.specs.Prelude.{option_map, slice_get}
 use Rattle.std.proofs.lemmas.Bool.{cases_eq}
 use Rattle.std.proofs.lemmas.Bool.Decides.{nat_tests}
@@ -35,12 +36,14 @@ other_number a b e f = grind (arith, nat_tests)
 
 -- the levels of a page that was aged
 aged_stored : (base : ChannelBase) (amount : ℕ) (page : Option StoredPage)
-    → option_map (map (aged_level base.law.erased amount)) (option_map (λ stored. stored.levels) page) ≡ option_map (λ stored. stored.levels) (option_map (aged_page base amount) page)
+    → option_map (map (aged_level base.law.erased amount)) (option_map (λ stored. stored.levels) page) ≡ option_map
+    (λ stored. stored.levels) (option_map (aged_page base amount) page)
 aged_stored base amount None = refl
 aged_stored base amount (Some page) = refl
 
 -- what the die tells whose block was aged
-told_aged : (start : Start) (contents : List (Tag × List ℕ)) (past : List Entry) (die sb amount : ℕ) (sum : List ℕ) (old new : List DieState)
+told_aged : (start : Start) (contents : List (Tag × List ℕ)) (past : List Entry) (die sb amount : ℕ) (sum : List ℕ)
+    (old new : List DieState)
     → DiesFit start contents past old sum → die < start.base.shape.dies → AgesBlock sb amount (die_at old die) (die_at new die)
     → blocks_told new die ≡ with_aged start.base.law.erased (blocks_told old die) sb amount
 told_aged start contents past die sb amount sum old new fit low ages_it =
@@ -48,10 +51,13 @@ told_aged start contents past die sb amount sum old new fit low ages_it =
     ∙ ap {B = List BlockCells} (λ (plan : Option DiePlan). aged_by plan (blocks_told old die) sb amount) (fit.plans_are die low)
 
 -- each page after an ageing
-age_pages : (start : Start) (contents : List (Tag × List ℕ)) (past : List Entry) (die sb amount : ℕ) (sum : List ℕ) (old new : List DieState)
-    → DiesFit start contents past old sum → die < start.base.shape.dies → sb < start.base.shape.superblocks → length (blocks_told old die) ≡ start.base.shape.superblocks
+age_pages : (start : Start) (contents : List (Tag × List ℕ)) (past : List Entry) (die sb amount : ℕ) (sum : List ℕ)
+    (old new : List DieState)
+    → DiesFit start contents past old sum → die < start.base.shape.dies → sb < start.base.shape.superblocks
+    → length (blocks_told old die) ≡ start.base.shape.superblocks
     → ChangesDie die (AgesBlock sb amount) old new → (place : Place) → IsTrue (has_place start.base.shape place)
-    → told_page new place ≡ changed_levels start contents past [] place (change_when (place.die == die && place.sb == sb) (ages amount))
+    → told_page new place ≡ changed_levels start contents past [] place
+    (change_when (place.die == die && place.sb == sb) (ages amount))
 age_pages start contents past die sb amount sum old new fit low within count changes place range =
     by_die (place.die == die) refl
   where
@@ -68,10 +74,13 @@ age_pages start contents past die sb amount sum old new fit low within count cha
     by_block true e here =
         let same : place.sb ≡ sb = same_number place.sb sb e in
         ap {B = Option (List ℤ)} (λ (n : ℕ). in_die (blocks_told new n)) here ∙ ap {B = Option (List ℤ)} in_die now
-        ∙ ap {B = Option (List ℤ)} (λ (n : ℕ). slice_get (cells_at (with_aged start.base.law.erased (blocks_told old die) sb amount) n).pages place.page) same
+        ∙ ap {B = Option (List ℤ)} (λ (n : ℕ). slice_get
+        (cells_at (with_aged start.base.law.erased (blocks_told old die) sb amount) n).pages place.page) same
         ∙ aged_here start.base.law.erased (blocks_told old die) sb amount place.page (omega (arith, count))
-        ∙ ap {B = Option (List ℤ)} (λ (n : ℕ). option_map (map (aged_level start.base.law.erased amount)) (slice_get (cells_at (blocks_told old die) n).pages place.page)) (sym same)
-        ∙ ap {B = Option (List ℤ)} (λ (n : ℕ). option_map (map (aged_level start.base.law.erased amount)) (in_die (blocks_told old n))) (sym here)
+        ∙ ap {B = Option (List ℤ)} (λ (n : ℕ). option_map (map (aged_level start.base.law.erased amount))
+        (slice_get (cells_at (blocks_told old die) n).pages place.page)) (sym same)
+        ∙ ap {B = Option (List ℤ)} (λ (n : ℕ). option_map (map (aged_level start.base.law.erased amount))
+        (in_die (blocks_told old n))) (sym here)
         ∙ ap {B = Option (List ℤ)} (option_map (map (aged_level start.base.law.erased amount))) (fit.pages_are place range)
         ∙ aged_stored start.base amount (page_of (coding_of start.base) start contents past place)
         ∙ sym (ap {B = Option (List ℤ)} changed e)
@@ -93,7 +102,8 @@ age_pages start contents past die sb amount sum old new fit low within count cha
         ∙ sym (ap {B = Option (List ℤ)} (λ (b : Bool). changed (b && place.sb == sb)) e)
 
 -- after an ageing
-pub age_fits : (start : Start) (contents : List (Tag × List ℕ)) (past : List Entry) (tag : Tag) (die sb amount : ℕ) (sum : List ℕ) (old new : List DieState)
+pub age_fits : (start : Start) (contents : List (Tag × List ℕ)) (past : List Entry) (tag : Tag) (die sb amount : ℕ)
+    (sum : List ℕ) (old new : List DieState)
     → die < start.base.shape.dies → sb < start.base.shape.superblocks
     → AreDue start.base.shape (blocks_of start.base past) old → ChangesDie die (AgesBlock sb amount) old new
     → DiesFit start contents past old sum → DiesFit start contents (made tag (Kind.Age die sb amount) ∷ past) new sum
@@ -102,7 +112,8 @@ age_fits start contents past tag die sb amount sum old new low within due change
     (λ other lt. elim (cases_eq other die) [
       | inl here ↦
           subst (λ (n : ℕ). StaysCounted (die_at old n) (die_at new n)) (sym here)
-          (record { plan_stays = changes.changed.plan_stays; works_stay = changes.changed.works_stay; loads_stay = changes.changed.loads_stay })
+          (record { plan_stays = changes.changed.plan_stays; works_stay = changes.changed.works_stay; loads_stay =
+          changes.changed.loads_stay })
       | inr far ↦ same_counted (die_at old other) (die_at new other) (changes.others other far)
     ])
     (age_pages start contents past die sb amount sum old new fit low within (due.blocks_count die low) changes)

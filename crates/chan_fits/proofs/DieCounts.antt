@@ -9,13 +9,16 @@ use Rattle.ssd_geo.specs.declared.entry.Entry.{Entry}
 use Rattle.onfi_cmd.specs.DieState.{DieState}
 
 -- the faults with one more entry
-more_faults : (die : ℕ) (entry : Entry) (past : List Entry) → faults_of die (entry ∷ past) ≡ cond (is_fault_of die entry) 1 0 + faults_of die past
+more_faults : (die : ℕ) (entry : Entry) (past : List Entry)
+    → faults_of die (entry ∷ past) ≡ cond (is_fault_of die entry) 1 0 + faults_of die past
 more_faults die entry past = sum_by-cons (λ (other : Entry). cond (is_fault_of die other) 1 0) entry past
 
 -- a die counts as it did, and the entry tells of no fault of it
-pub counts_kept : (start : Start) (past : List Entry) (entry : Entry) (die : ℕ) (old new : DieState) → is_fault_of die entry ≡ false
+pub counts_kept : (start : Start) (past : List Entry) (entry : Entry) (die : ℕ) (old new : DieState)
+    → is_fault_of die entry ≡ false
     → new.work_count ≡ old.work_count → new.load_count ≡ old.load_count
-    → CountsFaults start past die old.work_count old.load_count → CountsFaults start (entry ∷ past) die new.work_count new.load_count
+    → CountsFaults start past die old.work_count old.load_count
+    → CountsFaults start (entry ∷ past) die new.work_count new.load_count
 counts_kept start past entry die old new none works loads counts =
     let zero_more : ◌≡◌ {A = ℕ} (cond (is_fault_of die entry) 1 0) 0 = ap {B = ℕ} (λ (b : Bool). cond b 1 0) none in
     let as_many : faults_of die (entry ∷ past) ≡ faults_of die past = omega (arith, zero_more, more_faults die entry past) in
@@ -26,18 +29,23 @@ counts_kept start past entry die old new none works loads counts =
       load_stays = omega (arith, counts.load_stays, loads);
     }
 
-rose_again : (before faults mid now top : ℕ) → min (before + faults) top ≤ mid → min (mid + 1) top ≤ now → min (before + (1 + faults)) top ≤ now
+rose_again : (before faults mid now top : ℕ) → min (before + faults) top ≤ mid → min (mid + 1) top ≤ now
+    → min (before + (1 + faults)) top ≤ now
 rose_again before faults mid now top h g = omega arith
 
 -- a die counted one more fault
-pub counts_more : (start : Start) (past : List Entry) (entry : Entry) (die : ℕ) (old new : DieState) → is_fault_of die entry ≡ true
+pub counts_more : (start : Start) (past : List Entry) (entry : Entry) (die : ℕ) (old new : DieState)
+    → is_fault_of die entry ≡ true
     → Rose old.work_count new.work_count → new.load_count ≡ old.load_count
-    → CountsFaults start past die old.work_count old.load_count → CountsFaults start (entry ∷ past) die new.work_count new.load_count
+    → CountsFaults start past die old.work_count old.load_count
+    → CountsFaults start (entry ∷ past) die new.work_count new.load_count
 counts_more start past entry die old new told rose loads counts =
-    let one_more : faults_of die (entry ∷ past) ≡ 1 + faults_of die past = more_faults die entry past ∙ ap {B = ℕ} (λ (b : Bool). cond b 1 0 + faults_of die past) told in
+    let one_more : faults_of die (entry ∷ past) ≡ 1 + faults_of die past = more_faults die entry past
+        ∙ ap {B = ℕ} (λ (b : Bool). cond b 1 0 + faults_of die past) told in
     record {
       work_rose =
           subst (λ (n : ℕ). RoseBy n (count_at start.work_faults die) new.work_count) (sym one_more)
-          (rose_again (count_at start.work_faults die) (faults_of die past) old.work_count new.work_count greatest_count counts.work_rose rose);
+          (rose_again (count_at start.work_faults die) (faults_of die past) old.work_count new.work_count greatest_count
+          counts.work_rose rose);
       load_stays = omega (arith, counts.load_stays, loads);
     }

@@ -1,6 +1,7 @@
 -- The dies and the running sum fit a past after an erase of the victim, and after one that stopped at a die; and after a
 -- superblock was picked.
-use Rattle.std.proofs.Common.{◌≡◌, ◌≢◌, ℕ, ◌<◌, ◌≤◌, ◌==◌, nat_lt, ◌&&◌, Bool, true, false, List, [], ◌∷◌, length, ℤ, refl, ap, sym, ◌∙◌, subst, Option, Some, None, arith, IsTrue, inl, inr}
+use Rattle.std.proofs.Common.{◌≡◌, ◌≢◌, ℕ, ◌<◌, ◌≤◌, ◌==◌, nat_lt, ◌&&◌, Bool, true, false, List, [], ◌∷◌, length, ℤ, refl, ap}
+use Rattle.std.proofs.Common.{sym, ◌∙◌, subst, Option, Some, None, arith, IsTrue, inl, inr}
 use Rattle.std.specs.Prelude.{slice_get}
 use Rattle.std.proofs.lemmas.Bool.{cases_eq}
 use Rattle.std.proofs.lemmas.Bool.Decides.{nat_tests}
@@ -36,7 +37,8 @@ use Rattle.chan_fits.proofs.KeptSums.{bad_erase_sum, erase_sum, pick_sum}
 use Rattle.chan_fits.proofs.PlacesInRange.{place_in_range}
 use Rattle.chan_fits.proofs.ProgramFits.{blocks_number}
 use Rattle.chan_fits.proofs.ProgramPages.{changed_levels}
-use Rattle.chan_fits.proofs.QuietFits.{StaysCounted, fits_counted, fits_faulted, keeps_itself, kept_counted, page_stays, same_counted}
+use Rattle.chan_fits.proofs.QuietFits.{StaysCounted, fits_counted, fits_faulted, keeps_itself, kept_counted, page_stays}
+use Rattle.chan_fits.proofs.QuietFits.{same_counted}
 use Rattle.chan_fits.proofs.ToldBlocks.{erased_elsewhere, erased_here}
 
 -- ---- pages
@@ -48,23 +50,30 @@ other_sb : (a b : ℕ) → (a == b) ≡ false → a ≢ b
 other_sb a b e f = grind (arith, nat_tests)
 
 -- a page of a block that was erased is empty, and a page of another block stays
-erased_page : (old new : List DieState) (sb : ℕ) (place : Place) → blocks_told new place.die ≡ Die.with_erased (blocks_told old place.die) sb → sb < length (blocks_told old place.die)
+erased_page : (old new : List DieState) (sb : ℕ) (place : Place)
+    → blocks_told new place.die ≡ Die.with_erased (blocks_told old place.die) sb → sb < length (blocks_told old place.die)
     → place.sb ≡ sb → told_page new place ≡ None
 erased_page old new sb place is lt here =
     ap {B = Option (List ℤ)} (λ (told : List BlockCells). slice_get (cells_at told place.sb).pages place.page) is
-    ∙ ap {B = Option (List ℤ)} (λ (n : ℕ). slice_get (cells_at (Die.with_erased (blocks_told old place.die) sb) n).pages place.page) here
-    ∙ ap {B = Option (List ℤ)} (λ (c : BlockCells). slice_get c.pages place.page) (erased_here (blocks_told old place.die) sb lt)
+    ∙ ap {B = Option (List ℤ)} (λ (n : ℕ). slice_get
+    (cells_at (Die.with_erased (blocks_told old place.die) sb) n).pages place.page) here
+    ∙ ap {B = Option (List ℤ)} (λ (c : BlockCells). slice_get c.pages place.page)
+    (erased_here (blocks_told old place.die) sb lt)
 
-kept_page : (old new : List DieState) (sb : ℕ) (place : Place) → blocks_told new place.die ≡ Die.with_erased (blocks_told old place.die) sb
+kept_page : (old new : List DieState) (sb : ℕ) (place : Place)
+    → blocks_told new place.die ≡ Die.with_erased (blocks_told old place.die) sb
     → place.sb ≢ sb → told_page new place ≡ told_page old place
 kept_page old new sb place is far =
     ap {B = Option (List ℤ)} (λ (told : List BlockCells). slice_get (cells_at told place.sb).pages place.page) is
-    ∙ ap {B = Option (List ℤ)} (λ (c : BlockCells). slice_get c.pages place.page) (erased_elsewhere (blocks_told old place.die) sb place.sb far)
+    ∙ ap {B = Option (List ℤ)} (λ (c : BlockCells). slice_get c.pages place.page)
+    (erased_elsewhere (blocks_told old place.die) sb place.sb far)
 
 -- a page after an erase that went over its die
-page_by_erase : (start : Start) (contents : List (Tag × List ℕ)) (past : List Entry) (sum : List ℕ) (sb : ℕ) (old new : List DieState) (place : Place) (below : Bool)
+page_by_erase : (start : Start) (contents : List (Tag × List ℕ)) (past : List Entry) (sum : List ℕ) (sb : ℕ)
+    (old new : List DieState) (place : Place) (below : Bool)
     → DiesFit start contents past old sum → IsTrue (has_place start.base.shape place) → below ≡ true
-    → blocks_told new place.die ≡ Die.with_erased (blocks_told old place.die) sb → length (blocks_told old place.die) ≡ start.base.shape.superblocks
+    → blocks_told new place.die ≡ Die.with_erased (blocks_told old place.die) sb
+    → length (blocks_told old place.die) ≡ start.base.shape.superblocks
     → told_page new place ≡ changed_levels start contents past [] place (change_when (place.sb == sb && below) empties)
 page_by_erase start contents past sum sb old new place below fit range inside is count = by_test (place.sb == sb) refl
   where
@@ -74,19 +83,22 @@ page_by_erase start contents past sum sb old new place below fit range inside is
     by_test : (b : Bool) → (place.sb == sb) ≡ b → told_page new place ≡ changed (place.sb == sb && below)
     by_test true e =
         let here : place.sb ≡ sb = same_sb place.sb sb e in
-        erased_page old new sb place is (omega (arith, here, count, (place_in_range start.base.shape place range).superblock)) here
+        erased_page old new sb place is (omega (arith, here, count, (place_in_range start.base.shape place range).superblock))
+        here
         ∙ sym (λ i. changed (e i && inside i))
     by_test false e =
         kept_page old new sb place is (other_sb place.sb sb e) ∙ fit.pages_are place range ∙ sym (λ i. changed (e i && below))
 
 -- a page after an erase that didn't come to its die
-page_by_none : (start : Start) (contents : List (Tag × List ℕ)) (past : List Entry) (sum : List ℕ) (sb : ℕ) (old new : List DieState) (place : Place) (below : Bool)
+page_by_none : (start : Start) (contents : List (Tag × List ℕ)) (past : List Entry) (sum : List ℕ) (sb : ℕ)
+    (old new : List DieState) (place : Place) (below : Bool)
     → DiesFit start contents past old sum → IsTrue (has_place start.base.shape place) → below ≡ false
     → blocks_told new place.die ≡ blocks_told old place.die
     → told_page new place ≡ changed_levels start contents past [] place (change_when (place.sb == sb && below) empties)
 page_by_none start contents past sum sb old new place below fit range outside same =
     page_stays old new place same ∙ fit.pages_are place range
-    ∙ sym (ap {B = Option (List ℤ)} (λ (b : Bool). changed_levels start contents past [] place (change_when b empties)) (none (place.sb == sb) below outside))
+    ∙ sym (ap {B = Option (List ℤ)} (λ (b : Bool). changed_levels start contents past [] place (change_when b empties))
+    (none (place.sb == sb) below outside))
   where
     none : (a b : Bool) → b ≡ false → (a && b) ≡ false
     none true b e = e
@@ -94,7 +106,8 @@ page_by_none start contents past sum sb old new place below fit range outside sa
 
 -- ---- an erase of the victim
 
-pub erased_counted : (bound sb : ℕ) (old new : List DieState) → ErasesBelow bound sb old new → (die : ℕ) → die < bound → StaysCounted (die_at old die) (die_at new die)
+pub erased_counted : (bound sb : ℕ) (old new : List DieState) → ErasesBelow bound sb old new → (die : ℕ) → die < bound
+    → StaysCounted (die_at old die) (die_at new die)
 erased_counted bound sb old new below die lt = record {
   plan_stays = (below die lt).holds.plan_stays;
   works_stay = (below die lt).holds.works_stay;
@@ -102,7 +115,8 @@ erased_counted bound sb old new below die lt = record {
 }
 
 -- after a lawful erase
-pub erase_fits : (ladder : List Entry → ℕ → LadderState) (start : Start) (contents : List (Tag × List ℕ)) (past : List Entry) (tag : Tag) (sb : ℕ) (sum : List ℕ) (old new : List DieState)
+pub erase_fits : (ladder : List Entry → ℕ → LadderState) (start : Start) (contents : List (Tag × List ℕ)) (past : List Entry)
+    (tag : Tag) (sb : ℕ) (sum : List ℕ) (old new : List DieState)
     → IsLawfulBy ladder start.base (made tag (Kind.Erase sb) ∷ past)
     → AreDue start.base.shape (blocks_of start.base past) old → ErasesFirst start.base.shape.dies sb old new
     → DiesFit start contents past old sum → DiesFit start contents (made tag (Kind.Erase sb) ∷ past) new sum
@@ -114,8 +128,10 @@ erase_fits ladder start contents past tag sb sum old new lawful due is fit =
     (λ die lt. erased_counted start.base.shape.dies sb old new is.below die lt)
     (λ place range.
     let low = (place_in_range start.base.shape place range).die in
-    page_by_erase start contents past sum sb old new place true fit range refl (erased_below start.base.shape.dies sb old new is.below place.die low) (due.blocks_count place.die low)
-    ∙ ap {B = Option (List ℤ)} (λ (b : Bool). changed_levels start contents past [] place (change_when b empties)) (and_true (place.sb == sb)))
+    page_by_erase start contents past sum sb old new place true fit range refl
+    (erased_below start.base.shape.dies sb old new is.below place.die low) (due.blocks_count place.die low)
+    ∙ ap {B = Option (List ℤ)} (λ (b : Bool). changed_levels start contents past [] place (change_when b empties))
+    (and_true (place.sb == sb)))
     (subst (λ (blocks : List BlockBase). AreDue start.base.shape blocks new) (sym after)
     (due_erased start.base.shape (blocks_of start.base past) old new sb (blocks_number start past) victim is due))
     (fit.sum_is ∙ sym (erase_sum start contents past tag sb victim after))
@@ -127,24 +143,33 @@ erase_fits ladder start contents past tag sb sum old new lawful due is fit =
 -- ---- an erase that stopped
 
 -- what is known after it
-record UnerasedWith (start : Start) (contents : List (Tag × List ℕ)) (past : List Entry) (entry : Entry) (sb die : ℕ) (sum : List ℕ) (new : List DieState) : Type 0 where
+record UnerasedWith (start : Start) (contents : List (Tag × List ℕ)) (past : List Entry) (entry : Entry) (sb die : ℕ)
+    (sum : List ℕ) (new : List DieState) : Type 0 where
   pub pages : (place : Place) → IsTrue (has_place start.base.shape place)
-      → told_page new place ≡ changed_levels start contents past [] place (change_when (place.sb == sb && nat_lt place.die die) empties)
+      → told_page new place ≡ changed_levels start contents past [] place
+      (change_when (place.sb == sb && nat_lt place.die die) empties)
   pub due : AreDue start.base.shape (blocks_of start.base (entry ∷ past)) new
 
-unerased_with : (start : Start) (contents : List (Tag × List ℕ)) (past : List Entry) (entry : Entry) (sb die : ℕ) (sum : List ℕ) (P : DieState → DieState → Type 0) (old new : List DieState)
+unerased_with : (start : Start) (contents : List (Tag × List ℕ)) (past : List Entry) (entry : Entry) (sb die : ℕ) (sum : List ℕ)
+    (P : DieState → DieState → Type 0) (old new : List DieState)
     → blocks_of start.base (entry ∷ past) ≡ with_retired (blocks_of start.base past) sb
-    → AreDue start.base.shape (blocks_of start.base past) old → TellsTheSame P → StopsErase start.base.shape.dies sb die P old new
+    → AreDue start.base.shape (blocks_of start.base past) old → TellsTheSame P
+    → StopsErase start.base.shape.dies sb die P old new
     → DiesFit start contents past old sum → UnerasedWith start contents past entry sb die sum new
 unerased_with start contents past entry sb die sum P old new after due tells stops fit = record {
   pages = λ place range.
       let low = (place_in_range start.base.shape place range).die in
-      by_order (told_page new place ≡ changed_levels start contents past [] place (change_when (place.sb == sb && nat_lt place.die die) empties)) place.die die
-      (λ lt. page_by_erase start contents past sum sb old new place (nat_lt place.die die) fit range (test_less place.die die lt)
+      by_order (told_page new place ≡ changed_levels start contents past [] place
+          (change_when (place.sb == sb && nat_lt place.die die) empties)) place.die die
+      (λ lt. page_by_erase start contents past sum sb old new place (nat_lt place.die die) fit range
+      (test_less place.die die lt)
       (erased_below die sb old new stops.below place.die lt) (due.blocks_count place.die low))
-      (λ here. page_by_none start contents past sum sb old new place (nat_lt place.die die) fit range (test_not place.die die (omega arith))
-      (subst (λ (n : ℕ). blocks_told new n ≡ blocks_told old n) (sym here) (tells (die_at old die) (die_at new die) stops.stopped)))
-      (λ more. page_by_none start contents past sum sb old new place (nat_lt place.die die) fit range (test_not place.die die (omega arith))
+      (λ here. page_by_none start contents past sum sb old new place (nat_lt place.die die) fit range
+      (test_not place.die die (omega arith))
+      (subst (λ (n : ℕ). blocks_told new n ≡ blocks_told old n) (sym here)
+      (tells (die_at old die) (die_at new die) stops.stopped)))
+      (λ more. page_by_none start contents past sum sb old new place (nat_lt place.die die) fit range
+      (test_not place.die die (omega arith))
       (told_same old new place.die (stops.above place.die (omega arith))));
   due =
       subst (λ (blocks : List BlockBase). AreDue start.base.shape blocks new) (sym after)
@@ -159,7 +184,8 @@ unerased_with start contents past entry sb die sum P old new after due tells sto
     test_not a b le = grind (arith, nat_tests)
 
 -- the plans and counts of the dies but the one that stopped
-pub other_dies_counted : (count sb die : ℕ) (P : DieState → DieState → Type 0) (old new : List DieState) → StopsErase count sb die P old new
+pub other_dies_counted : (count sb die : ℕ) (P : DieState → DieState → Type 0) (old new : List DieState)
+    → StopsErase count sb die P old new
     → (other : ℕ) → other ≢ die → StaysCounted (die_at old other) (die_at new other)
 other_dies_counted count sb die P old new stops other far =
     by_order (StaysCounted (die_at old other) (die_at new other)) other die
@@ -168,31 +194,39 @@ other_dies_counted count sb die P old new stops other far =
     (λ more. same_counted (die_at old other) (die_at new other) (stops.above other (omega arith)))
 
 -- after a lawful erase that failed, where a block answered FAIL
-pub bad_erase_fits : (ladder : List Entry → ℕ → LadderState) (start : Start) (contents : List (Tag × List ℕ)) (past : List Entry) (tag : Tag) (sb die : ℕ) (sum : List ℕ) (old new : List DieState)
+pub bad_erase_fits : (ladder : List Entry → ℕ → LadderState) (start : Start) (contents : List (Tag × List ℕ))
+    (past : List Entry) (tag : Tag) (sb die : ℕ) (sum : List ℕ) (old new : List DieState)
     → IsLawfulBy ladder start.base (made tag (Kind.BadErase sb die false) ∷ past)
-    → AreDue start.base.shape (blocks_of start.base past) old → StopsErase start.base.shape.dies sb die (RefusesBlock sb) old new
+    → AreDue start.base.shape (blocks_of start.base past) old
+    → StopsErase start.base.shape.dies sb die (RefusesBlock sb) old new
     → DiesFit start contents past old sum → DiesFit start contents (made tag (Kind.BadErase sb die false) ∷ past) new sum
 bad_erase_fits ladder start contents past tag sb die sum old new lawful due stops fit =
     let entry : Entry = made tag (Kind.BadErase sb die false) in
-    let after : blocks_of start.base (entry ∷ past) ≡ with_retired (blocks_of start.base past) sb = blocks_after_entry ladder start.base entry past lawful in
-    let there : UnerasedWith start contents past entry sb die sum new = unerased_with start contents past entry sb die sum (RefusesBlock sb) old new after due (refused_tells sb) stops fit in
+    let after : blocks_of start.base (entry ∷ past) ≡ with_retired (blocks_of start.base past) sb =
+        blocks_after_entry ladder start.base entry past lawful in
+    let there : UnerasedWith start contents past entry sb die sum new =
+        unerased_with start contents past entry sb die sum (RefusesBlock sb) old new after due (refused_tells sb) stops fit in
     fits_counted start contents past entry old new sum sum fit (λ other. refl)
     (λ other lt. elim (cases_eq other die) [
-      | inl here ↦ subst (λ (n : ℕ). StaysCounted (die_at old n) (die_at new n)) (sym here) (kept_counted (die_at old die) (die_at new die) stops.stopped.keeps)
+      | inl here ↦ subst (λ (n : ℕ). StaysCounted (die_at old n) (die_at new n)) (sym here)
+          (kept_counted (die_at old die) (die_at new die) stops.stopped.keeps)
       | inr far ↦ other_dies_counted start.base.shape.dies sb die (RefusesBlock sb) old new stops other far
     ])
     there.pages there.due
     (fit.sum_is ∙ sym (bad_erase_sum start contents past tag sb die false lawful.1.meets.may_erase.is_victim after))
 
 -- where a die's call failed
-pub fault_erase_fits : (ladder : List Entry → ℕ → LadderState) (start : Start) (contents : List (Tag × List ℕ)) (past : List Entry) (tag : Tag) (sb die : ℕ) (sum : List ℕ) (old new : List DieState)
+pub fault_erase_fits : (ladder : List Entry → ℕ → LadderState) (start : Start) (contents : List (Tag × List ℕ))
+    (past : List Entry) (tag : Tag) (sb die : ℕ) (sum : List ℕ) (old new : List DieState)
     → IsLawfulBy ladder start.base (made tag (Kind.BadErase sb die true) ∷ past)
     → AreDue start.base.shape (blocks_of start.base past) old → StopsErase start.base.shape.dies sb die FaultsDie old new
     → DiesFit start contents past old sum → DiesFit start contents (made tag (Kind.BadErase sb die true) ∷ past) new sum
 fault_erase_fits ladder start contents past tag sb die sum old new lawful due stops fit =
     let entry : Entry = made tag (Kind.BadErase sb die true) in
-    let after : blocks_of start.base (entry ∷ past) ≡ with_retired (blocks_of start.base past) sb = blocks_after_entry ladder start.base entry past lawful in
-    let there : UnerasedWith start contents past entry sb die sum new = unerased_with start contents past entry sb die sum FaultsDie old new after due faulted_tells stops fit in
+    let after : blocks_of start.base (entry ∷ past) ≡ with_retired (blocks_of start.base past) sb =
+        blocks_after_entry ladder start.base entry past lawful in
+    let there : UnerasedWith start contents past entry sb die sum new =
+        unerased_with start contents past entry sb die sum FaultsDie old new after due faulted_tells stops fit in
     fits_faulted start contents past entry die old new sum sum fit (λ other. refl) stops.stopped
     (λ other lt far. other_dies_counted start.base.shape.dies sb die FaultsDie old new stops other far)
     there.pages there.due
@@ -208,18 +242,22 @@ sealed_good SbState.Frontier e = refl
 sealed_good SbState.Victim e = refl
 
 -- after a lawful pick
-pub pick_fits : (ladder : List Entry → ℕ → LadderState) (start : Start) (contents : List (Tag × List ℕ)) (past : List Entry) (tag : Tag) (sb : ℕ) (sum : List ℕ) (dies : List DieState)
+pub pick_fits : (ladder : List Entry → ℕ → LadderState) (start : Start) (contents : List (Tag × List ℕ)) (past : List Entry)
+    (tag : Tag) (sb : ℕ) (sum : List ℕ) (dies : List DieState)
     → IsLawfulBy ladder start.base (made tag (Kind.Pick sb) ∷ past)
     → AreDue start.base.shape (blocks_of start.base past) dies
     → DiesFit start contents past dies sum → DiesFit start contents (made tag (Kind.Pick sb) ∷ past) dies sum
 pick_fits ladder start contents past tag sb sum dies lawful due fit =
     let entry : Entry = made tag (Kind.Pick sb) in
-    let after : blocks_of start.base (entry ∷ past) ≡ with_victim (blocks_of start.base past) sb = blocks_after_entry ladder start.base entry past lawful in
+    let after : blocks_of start.base (entry ∷ past) ≡ with_victim (blocks_of start.base past) sb =
+        blocks_after_entry ladder start.base entry past lawful in
     let low : sb < start.base.shape.superblocks = below sb start.base.shape.superblocks lawful.1.in_range in
-    let sealed : is_sealed (block_at (blocks_of start.base past) sb).state ≡ true = candidate_sealed start.base past sb low lawful.1.meets.is_candidate in
+    let sealed : is_sealed (block_at (blocks_of start.base past) sb).state ≡ true =
+        candidate_sealed start.base past sb low lawful.1.meets.is_candidate in
     fits_counted start contents past entry dies dies sum sum fit (λ die. refl)
     (λ die lt. kept_counted (die_at dies die) (die_at dies die) (keeps_itself (die_at dies die)))
     fit.pages_are
     (subst (λ (blocks : List BlockBase). AreDue start.base.shape blocks dies) (sym after)
-    (due_picked start.base.shape (blocks_of start.base past) dies sb (blocks_number start past) (sealed_good (block_at (blocks_of start.base past) sb).state sealed) due))
+    (due_picked start.base.shape (blocks_of start.base past) dies sb (blocks_number start past)
+    (sealed_good (block_at (blocks_of start.base past) sb).state sealed) due))
     (fit.sum_is ∙ sym (pick_sum start contents past tag sb sealed after))

@@ -1,5 +1,6 @@
 -- In a lawful past the sum of a stripe of which no slot is used is zeros, in each superblock that isn't bad.
-use Rattle.std.proofs.Common.{◌≡◌, ℕ, ◌+◌, ◌-◌, ◌*◌, ◌/◌, ◌%◌, ◌<◌, ◌≤◌, ◌==◌, nat_lt, not, ◌&&◌, ◌||◌, Bool, true, false, List, [], ◌∷◌, refl, ap, sym, ◌∙◌, Some, arith}
+use Rattle.std.proofs.Common.{◌≡◌, ℕ, ◌+◌, ◌-◌, ◌*◌, ◌/◌, ◌%◌, ◌<◌, ◌≤◌, ◌==◌, nat_lt, not, ◌&&◌, ◌||◌, Bool, true, false, List}
+use Rattle.std.proofs.Common.{[], ◌∷◌, refl, ap, sym, ◌∙◌, Some, arith}
 use Rattle.std.specs.Prelude.{if◌then◌else◌}
 use Rattle.std.specs.List.{list_any}
 use Rattle.std.proofs.lemmas.Bool.Decides.{nat_tests}
@@ -9,7 +10,8 @@ use Rattle.ssd_histories.specs.History.{open_look}
 use Rattle.ssd_geo.specs.Ladder.{LadderState}
 use Rattle.ssd_histories.specs.Lawful.{IsLawfulBy, IsLawfulKind, IsLawfulMove}
 use Rattle.ssd_histories.specs.PastBlocks.{block_before, is_bad_superblock, turns_bad, used_of}
-use Rattle.ssd_histories.specs.PastPages.{SumChange, adds, clears, keeps, is_in_stripe, is_open_in_image, sum_change, sum_of, sum_when}
+use Rattle.ssd_histories.specs.PastPages.{SumChange, adds, clears, keeps, is_in_stripe, is_open_in_image, sum_change, sum_of}
+use Rattle.ssd_histories.specs.PastPages.{sum_when}
 use Rattle.ssd_histories.specs.Ranges.{has_slot, is_in_range}
 use Rattle.ssd_histories.specs.Room.{next_slot}
 use Rattle.ssd_histories.specs.Start.{Start}
@@ -31,7 +33,8 @@ HasFreshSums start contents past sb =
     → sum_of (coding_of start.base) start contents past sb stripe ≡ zero_word (word_bytes_in start.base.shape)
 
 -- a stripe whose slots are all unused isn't open in the image
-not_open : (frontier : Bool) (used w stripe : ℕ) → used ≤ stripe * w → (frontier && used / w == stripe && not (used % w == 0)) ≡ false
+not_open : (frontier : Bool) (used w stripe : ℕ) → used ≤ stripe * w
+    → (frontier && used / w == stripe && not (used % w == 0)) ≡ false
 not_open false used w stripe le = refl
 not_open true used w stripe le = whole (used / w) (used % w) used w stripe (div-add-mod' used w) le
   where
@@ -53,15 +56,18 @@ not_open true used w stripe le = whole (used / w) (used % w) used w stripe (div-
 first_sums : (start : Start) (contents : List (Tag × List ℕ)) (sb : ℕ) → HasFreshSums start contents [] sb
 first_sums start contents sb stripe le =
     let block = block_before start.base sb in
-    closed (is_open_in_image start.base sb stripe) (not_open (States.is_frontier block.state) block.used (start.base.shape.dies - 1) stripe le)
+    closed (is_open_in_image start.base sb stripe)
+    (not_open (States.is_frontier block.state) block.used (start.base.shape.dies - 1) stripe le)
   where
     closed : (b : Bool) → b ≡ false
-        → ◌≡◌ {A = List ℕ} (elim b [ true ↦ start.base.sum | false ↦ zero_word (word_bytes_in start.base.shape) ]) (zero_word (word_bytes_in start.base.shape))
+        → ◌≡◌ {A = List ℕ} (elim b [ true ↦ start.base.sum | false ↦ zero_word (word_bytes_in start.base.shape) ])
+        (zero_word (word_bytes_in start.base.shape))
     closed true e = absurd (grind arith)
     closed false e = refl
 
 -- a sum under a change that keeps it, or clears it
-sum_kept : (change : SumChange) (a zeros before : List ℕ) → change ≡ keeps → before ≡ zeros → ◌≡◌ {A = List ℕ} (elim change [ adds ↦ a | clears ↦ zeros | keeps ↦ before ]) zeros
+sum_kept : (change : SumChange) (a zeros before : List ℕ) → change ≡ keeps → before ≡ zeros
+    → ◌≡◌ {A = List ℕ} (elim change [ adds ↦ a | clears ↦ zeros | keeps ↦ before ]) zeros
 sum_kept adds a zeros before e f = absurd (grind arith)
 sum_kept clears a zeros before e f = refl
 sum_kept keeps a zeros before e f = f
@@ -71,13 +77,15 @@ when_not true change e = absurd (grind arith)
 when_not false change e = refl
 
 -- the next slot is in no stripe above the used slots
-next_elsewhere : (dies sb stripe used : ℕ) (slot : Slot) → 2 ≤ dies → (sb ≡ slot.sb → slot.index ≡ used) → (if slot.sb == sb then used + 1 else used) ≤ stripe * (dies - 1)
+next_elsewhere : (dies sb stripe used : ℕ) (slot : Slot) → 2 ≤ dies → (sb ≡ slot.sb → slot.index ≡ used)
+    → (if slot.sb == sb then used + 1 else used) ≤ stripe * (dies - 1)
     → is_in_stripe dies sb stripe slot ≡ false
 next_elsewhere dies sb stripe used slot two at le =
     by_both (slot.sb == sb) (stripe_of_index dies slot.index == stripe)
     (λ blocks stripes. filled slot.sb sb used slot.index stripe (dies - 1) (omega arith) blocks at stripes le)
   where
-    filled : (a b u n s w : ℕ) → 0 < w → (a == b) ≡ true → (b ≡ a → n ≡ u) → (n / w == s) ≡ true → (if a == b then u + 1 else u) ≤ s * w → ⊥
+    filled : (a b u n s w : ℕ) → 0 < w → (a == b) ≡ true → (b ≡ a → n ≡ u) → (n / w == s) ≡ true
+        → (if a == b then u + 1 else u) ≤ s * w → ⊥
     filled a b u n s w pos e at f le =
         let same : b ≡ a = grind (arith, nat_tests) in
         let index : n ≡ u = at same in
@@ -101,14 +109,16 @@ failed_elsewhere true b d e = absurd (grind arith)
 failed_elsewhere false b d e = refl
 
 -- the next slot is the first unused one of its superblock, whichever of two equal superblocks is named
-next_here : (base : ChannelBase) (past : List Entry) (slot : Slot) (sb : ℕ) → next_slot base past ≡ Some slot → has_slot base.shape slot ≡ true → sb ≡ slot.sb → slot.index ≡ used_of base past sb
+next_here : (base : ChannelBase) (past : List Entry) (slot : Slot) (sb : ℕ) → next_slot base past ≡ Some slot
+    → has_slot base.shape slot ≡ true → sb ≡ slot.sb → slot.index ≡ used_of base past sb
 next_here base past slot sb next range e =
     next_is_used base past slot next (slot_in_range base.shape slot range) ∙ ap {B = ℕ} (λ (n : ℕ). used_of base past n) (sym e)
 
 -- an entry that keeps the sums of the stripes above a superblock's used slots, and leaves no fewer slots used
 kept_sums : (start : Start) (contents : List (Tag × List ℕ)) (past : List Entry) (entry : Entry) (sb : ℕ)
     → used_of start.base past sb ≤ used_of start.base (entry ∷ past) sb
-    → ((stripe : ℕ) → used_of start.base (entry ∷ past) sb ≤ stripe * (start.base.shape.dies - 1) → sum_change start.base.shape.dies sb stripe entry.kind ≡ keeps)
+    → ((stripe : ℕ) → used_of start.base (entry ∷ past) sb ≤ stripe * (start.base.shape.dies - 1)
+    → sum_change start.base.shape.dies sb stripe entry.kind ≡ keeps)
     → HasFreshSums start contents past sb → HasFreshSums start contents (entry ∷ past) sb
 kept_sums start contents past entry sb more change h stripe le =
     sum_kept (sum_change start.base.shape.dies sb stripe entry.kind) _ (zero_word (word_bytes_in start.base.shape))
@@ -123,36 +133,49 @@ erased_sums false a zeros before h = h refl
 used_before : (named sb used limit : ℕ) → (named == sb) ≡ false → (if named == sb then 0 else used) ≤ limit → used ≤ limit
 used_before named sb used limit e le = grind (arith, nat_tests)
 
-sums_step : (state : ℕ → LadderState) (start : Start) (contents : List (Tag × List ℕ)) (past : List Entry) (tag : Tag) (kind : Kind) → is_in_range start.base.shape kind ≡ true
+sums_step : (state : ℕ → LadderState) (start : Start) (contents : List (Tag × List ℕ)) (past : List Entry) (tag : Tag)
+    (kind : Kind) → is_in_range start.base.shape kind ≡ true
     → IsLawfulKind state start.base past tag kind → (sb : ℕ) → turns_bad sb kind ≡ false → HasFreshSums start contents past sb
     → HasFreshSums start contents (made tag kind ∷ past) sb
 sums_step state start contents past tag (Kind.Write named slot) range c sb good h =
-    kept_sums start contents past (made tag (Kind.Write named slot)) sb (used_kept sb (Kind.Write named slot) (used_of start.base past sb) tt)
+    kept_sums start contents past (made tag (Kind.Write named slot)) sb
+    (used_kept sb (Kind.Write named slot) (used_of start.base past sb) tt)
     (λ stripe le. when_not (is_in_stripe start.base.shape.dies sb stripe slot) adds
     (next_elsewhere start.base.shape.dies sb stripe (used_of start.base past sb) slot (two_dies start)
-    (next_here start.base past slot sb c.is_programmed.is_next (second_holds (nat_lt named start.base.shape.rows) (has_slot start.base.shape slot) range)) le))
+    (next_here start.base past slot sb c.is_programmed.is_next
+    (second_holds (nat_lt named start.base.shape.rows) (has_slot start.base.shape slot) range)) le))
     h
 sums_step state start contents past tag (Kind.Move at slot) range c sb good h =
-    kept_sums start contents past (made tag (Kind.Move at slot)) sb (used_kept sb (Kind.Move at slot) (used_of start.base past sb) tt)
+    kept_sums start contents past (made tag (Kind.Move at slot)) sb
+    (used_kept sb (Kind.Move at slot) (used_of start.base past sb) tt)
     (λ stripe le. when_not (is_in_stripe start.base.shape.dies sb stripe slot) adds
     (next_elsewhere start.base.shape.dies sb stripe (used_of start.base past sb) slot (two_dies start)
-    (next_here start.base past slot sb (of_some (open_look past tag at) (λ look. IsLawfulMove (state at) start.base past look slot) (λ look move. move.is_programmed.is_next) c) range) le))
+    (next_here start.base past slot sb (of_some (open_look past tag at)
+    (λ look. IsLawfulMove (state at) start.base past look slot) (λ look move. move.is_programmed.is_next) c) range) le))
     h
 sums_step state start contents past tag (Kind.BadWrite named slot die fault) range c sb good h =
-    kept_sums start contents past (made tag (Kind.BadWrite named slot die fault)) sb (used_kept sb (Kind.BadWrite named slot die fault) (used_of start.base past sb) tt)
-    (λ stripe le. when_not (is_in_stripe start.base.shape.dies sb stripe slot && die == parity_die start.base.shape.dies sb stripe) adds
-    (failed_elsewhere (slot.sb == sb) (stripe_of_index start.base.shape.dies slot.index == stripe) (die == parity_die start.base.shape.dies sb stripe) good))
+    kept_sums start contents past (made tag (Kind.BadWrite named slot die fault)) sb
+    (used_kept sb (Kind.BadWrite named slot die fault) (used_of start.base past sb) tt)
+    (λ stripe le. when_not (is_in_stripe start.base.shape.dies sb stripe slot
+    && die == parity_die start.base.shape.dies sb stripe) adds
+    (failed_elsewhere (slot.sb == sb) (stripe_of_index start.base.shape.dies slot.index == stripe)
+    (die == parity_die start.base.shape.dies sb stripe) good))
     h
 sums_step state start contents past tag (Kind.BadCopy at slot die fault) range c sb good h =
-    kept_sums start contents past (made tag (Kind.BadCopy at slot die fault)) sb (used_kept sb (Kind.BadCopy at slot die fault) (used_of start.base past sb) tt)
-    (λ stripe le. when_not (is_in_stripe start.base.shape.dies sb stripe slot && die == parity_die start.base.shape.dies sb stripe) adds
-    (failed_elsewhere (slot.sb == sb) (stripe_of_index start.base.shape.dies slot.index == stripe) (die == parity_die start.base.shape.dies sb stripe) good))
+    kept_sums start contents past (made tag (Kind.BadCopy at slot die fault)) sb
+    (used_kept sb (Kind.BadCopy at slot die fault) (used_of start.base past sb) tt)
+    (λ stripe le. when_not (is_in_stripe start.base.shape.dies sb stripe slot
+    && die == parity_die start.base.shape.dies sb stripe) adds
+    (failed_elsewhere (slot.sb == sb) (stripe_of_index start.base.shape.dies slot.index == stripe)
+    (die == parity_die start.base.shape.dies sb stripe) good))
     h
 sums_step state start contents past tag (Kind.Erase named) range c sb good h =
-    λ stripe le. erased_sums (named == sb) _ (zero_word (word_bytes_in start.base.shape)) (sum_of (coding_of start.base) start contents past sb stripe)
+    λ stripe le. erased_sums (named == sb) _ (zero_word (word_bytes_in start.base.shape))
+        (sum_of (coding_of start.base) start contents past sb stripe)
     (λ e. h stripe (used_before named sb (used_of start.base past sb) (stripe * (start.base.shape.dies - 1)) e le))
 sums_step state start contents past tag (Kind.BadErase named die fault) range c sb good h =
-    kept_sums start contents past (made tag (Kind.BadErase named die fault)) sb (used_kept sb (Kind.BadErase named die fault) (used_of start.base past sb) good)
+    kept_sums start contents past (made tag (Kind.BadErase named die fault)) sb
+    (used_kept sb (Kind.BadErase named die fault) (used_of start.base past sb) good)
     (λ stripe le. refl) h
 sums_step state start contents past tag kind range c sb good h =
     kept_sums start contents past (made tag kind) sb (used_kept sb kind (used_of start.base past sb) tt) (λ stripe le. refl) h
@@ -169,7 +192,8 @@ turned_bad false true r e = e
 turned_bad false false r e = refl
 
 pub fresh_sums : (ladder : List Entry → ℕ → LadderState) (start : Start) (contents : List (Tag × List ℕ)) (past : List Entry)
-    → IsLawfulBy ladder start.base past → (sb : ℕ) → is_bad_superblock start.base past sb ≡ false → HasFreshSums start contents past sb
+    → IsLawfulBy ladder start.base past → (sb : ℕ) → is_bad_superblock start.base past sb ≡ false
+    → HasFreshSums start contents past sb
 fresh_sums ladder start contents [] lawful sb good = first_sums start contents sb
 fresh_sums ladder start contents (entry ∷ past) lawful sb good =
     let before : Bool = States.is_bad (block_before start.base sb).state in

@@ -48,8 +48,10 @@ pub blocks_number : (start : Start) (past : List Entry) → length (blocks_of st
 blocks_number start past = length-map-range_with_len (block_of start.base past) 0 start.base.shape.superblocks
 
 -- what is known of the dies before a program of the next slot
-pub may_program : (start : Start) (contents : List (Tag × List ℕ)) (past : List Entry) (slot : Slot) (old : List DieState) (sum : List ℕ)
-    → next_slot start.base past ≡ Some slot → IsTrue (has_slot start.base.shape slot) → AreDue start.base.shape (blocks_of start.base past) old
+pub may_program : (start : Start) (contents : List (Tag × List ℕ)) (past : List Entry) (slot : Slot) (old : List DieState)
+    (sum : List ℕ)
+    → next_slot start.base past ≡ Some slot → IsTrue (has_slot start.base.shape slot)
+    → AreDue start.base.shape (blocks_of start.base past) old
     → DiesFit start contents past old sum → MayProgram start contents past slot old sum
 may_program start contents past slot old sum next range due fit = record {
   fit = fit;
@@ -60,7 +62,8 @@ may_program start contents past slot old sum next range due fit = record {
 }
 
 -- the plans and counts of all dies stay where the slot was programmed
-pub programmed_counted : (start : Start) (slot : Slot) (word total : List ℕ) (old new : List DieState) → IsProgrammed start.base.shape slot word total old new
+pub programmed_counted : (start : Start) (slot : Slot) (word total : List ℕ) (old new : List DieState)
+    → IsProgrammed start.base.shape slot word total old new
     → (die : ℕ) → StaysCounted (die_at old die) (die_at new die)
 programmed_counted start slot word total old new is die = elim (cases_eq die (page_of_slot start.base.shape slot).die) [
   | inl here ↦ put_counted (page_of_slot start.base.shape slot) word here is.slot_page
@@ -70,56 +73,71 @@ programmed_counted start slot word total old new is die = elim (cases_eq die (pa
   ]
 ]
   where
-    put_counted : (place : Place) (w : List ℕ) → die ≡ place.die → PutsAt place w old new → StaysCounted (die_at old die) (die_at new die)
+    put_counted : (place : Place) (w : List ℕ) → die ≡ place.die → PutsAt place w old new
+        → StaysCounted (die_at old die) (die_at new die)
     put_counted place w here puts =
         subst (λ (n : ℕ). StaysCounted (die_at old n) (die_at new n)) (sym here)
         (record { plan_stays = puts.holds.plan_stays; works_stay = puts.holds.works_stay; loads_stay = puts.holds.loads_stay })
 
-    by_last : (b : Bool) → is_last_of_stripe start.base.shape.dies slot.index ≡ b → die ≢ (page_of_slot start.base.shape slot).die → die ≡ (parity_of_slot start.base.shape slot).die
+    by_last : (b : Bool) → is_last_of_stripe start.base.shape.dies slot.index ≡ b
+        → die ≢ (page_of_slot start.base.shape slot).die → die ≡ (parity_of_slot start.base.shape slot).die
         → StaysCounted (die_at old die) (die_at new die)
     by_last true last other here = put_counted (parity_of_slot start.base.shape slot) total here (is.parity_page last)
     by_last false e other here =
-        same_counted (die_at old die) (die_at new die) (is.others die other (λ last. absurd (apart (is_last_of_stripe start.base.shape.dies slot.index) e last)))
+        same_counted (die_at old die) (die_at new die)
+        (is.others die other (λ last. absurd (apart (is_last_of_stripe start.base.shape.dies slot.index) e last)))
 
 -- the running sum after the program
-sum_now : (start : Start) (contents : List (Tag × List ℕ)) (past : List Entry) (slot : Slot) (word sum : List ℕ) (last : Bool) → sum ≡ Sums.sum_at start contents past slot
-    → ◌≡◌ {A = List ℕ} (if last then zero_word (word_bytes_in start.base.shape) else bytes_sum word sum) (Sums.sum_after_word start contents past slot word last)
+sum_now : (start : Start) (contents : List (Tag × List ℕ)) (past : List Entry) (slot : Slot) (word sum : List ℕ) (last : Bool)
+    → sum ≡ Sums.sum_at start contents past slot
+    → ◌≡◌ {A = List ℕ} (if last then zero_word (word_bytes_in start.base.shape) else bytes_sum word sum)
+    (Sums.sum_after_word start contents past slot word last)
 sum_now start contents past slot word sum true sum_is = refl
 sum_now start contents past slot word sum false sum_is = λ i. bytes_sum word (sum_is i)
 
 -- the dies and the sum are those after a program of a word into the next slot
-record FitWith (start : Start) (contents : List (Tag × List ℕ)) (past : List Entry) (tag : Tag) (row : ℕ) (slot : Slot) (word : List ℕ) (new : List DieState) (after : List ℕ) : Type 0 where
+record FitWith (start : Start) (contents : List (Tag × List ℕ)) (past : List Entry) (tag : Tag) (row : ℕ) (slot : Slot)
+    (word : List ℕ) (new : List DieState) (after : List ℕ) : Type 0 where
   pub pages : (place : Place) → IsTrue (has_place start.base.shape place)
       → told_page new place ≡ changed_levels start contents past word place (change_by_program start.base.shape.dies slot place)
   pub sums : after ≡ Sums.running_with start contents past tag row slot word
 
-program_fits : (ladder : List Entry → ℕ → LadderState) (start : Start) (contents : List (Tag × List ℕ)) (past : List Entry) (tag : Tag) (row : ℕ) (slot : Slot) (word sum after : List ℕ) (old new : List DieState)
-    → IsStart start → IsLawfulBy ladder start.base past → next_slot start.base past ≡ Some slot → IsTrue (has_slot start.base.shape slot)
+program_fits : (ladder : List Entry → ℕ → LadderState) (start : Start) (contents : List (Tag × List ℕ)) (past : List Entry)
+    (tag : Tag) (row : ℕ) (slot : Slot) (word sum after : List ℕ) (old new : List DieState)
+    → IsStart start → IsLawfulBy ladder start.base past → next_slot start.base past ≡ Some slot
+    → IsTrue (has_slot start.base.shape slot)
     → AreDue start.base.shape (blocks_of start.base past) old
     → IsProgrammed start.base.shape slot word (bytes_sum word sum) old new
     → after ≡ sum_after start.base.shape slot (bytes_sum word sum) ProgramEnd.Programmed
     → DiesFit start contents past old sum → FitWith start contents past tag row slot word new after
 program_fits ladder start contents past tag row slot word sum after old new is_start lawful next range due is after_is fit =
-    let before : sum ≡ Sums.sum_at start contents past slot = fit.sum_is ∙ Sums.sum_before ladder start contents past slot lawful next range in
-    let one : AtMostOne is_frontier start.base past = one_frontier ladder start.base past (one_at_start start is_start) lawful in
+    let before : sum ≡ Sums.sum_at start contents past slot = fit.sum_is
+        ∙ Sums.sum_before ladder start contents past slot lawful next range in
+    let one : AtMostOne is_frontier start.base past =
+        one_frontier ladder start.base past (one_at_start start is_start) lawful in
     record {
-      pages = program_pages start contents past slot word sum old new (may_program start contents past slot old sum next range due fit) before is;
+      pages = program_pages start contents past slot word sum old new
+          (may_program start contents past slot old sum next range due fit) before is;
       sums =
           after_is ∙ sum_now start contents past slot word sum (is_last_of_stripe start.base.shape.dies slot.index) before
           ∙ sym (Sums.sum_after start contents past tag row slot word one next range);
     }
 
 -- the table that is due after a program
-due_after : (ladder : List Entry → ℕ → LadderState) (start : Start) (past : List Entry) (entry : Entry) (slot : Slot) (word total : List ℕ) (old new : List DieState)
-    → next_slot start.base past ≡ Some slot → IsTrue (has_slot start.base.shape slot) → AreDue start.base.shape (blocks_of start.base past) old
+due_after : (ladder : List Entry → ℕ → LadderState) (start : Start) (past : List Entry) (entry : Entry) (slot : Slot)
+    (word total : List ℕ) (old new : List DieState)
+    → next_slot start.base past ≡ Some slot → IsTrue (has_slot start.base.shape slot)
+    → AreDue start.base.shape (blocks_of start.base past) old
     → blocks_of start.base (entry ∷ past) ≡ with_next_used (slots_in start.base) (blocks_of start.base past)
     → IsProgrammed start.base.shape slot word total old new → AreDue start.base.shape (blocks_of start.base (entry ∷ past)) new
 due_after ladder start past entry slot word total old new next range due after is =
     subst (λ (blocks : List BlockBase). AreDue start.base.shape blocks new) (sym after)
-    (due_programmed (slots_in start.base) start.base.shape (blocks_of start.base past) slot word total old new (blocks_number start past) next range is due)
+    (due_programmed (slots_in start.base) start.base.shape (blocks_of start.base past) slot word total old new
+    (blocks_number start past) next range is due)
 
 -- after a lawful write of its call's word
-pub write_fits : (ladder : List Entry → ℕ → LadderState) (start : Start) (contents : List (Tag × List ℕ)) (past : List Entry) (tag : Tag) (row : ℕ) (slot : Slot) (word sum after : List ℕ) (old new : List DieState)
+pub write_fits : (ladder : List Entry → ℕ → LadderState) (start : Start) (contents : List (Tag × List ℕ)) (past : List Entry)
+    (tag : Tag) (row : ℕ) (slot : Slot) (word sum after : List ℕ) (old new : List DieState)
     → IsStart start → IsLawfulBy ladder start.base (made tag (Kind.Write row slot) ∷ past)
     → word ≡ (coding_of start.base).encoded (serial_of start.base.session tag) row (data_of contents tag)
     → AreDue start.base.shape (blocks_of start.base past) old
@@ -128,10 +146,13 @@ pub write_fits : (ladder : List Entry → ℕ → LadderState) (start : Start) (
     → DiesFit start contents past old sum → DiesFit start contents (made tag (Kind.Write row slot) ∷ past) new after
 write_fits ladder start contents past tag row slot word sum after old new is_start lawful word_is due is after_is fit =
     let next : next_slot start.base past ≡ Some slot = lawful.1.meets.is_programmed.is_next in
-    let range : has_slot start.base.shape slot ≡ true = second_holds (nat_lt row start.base.shape.rows) (has_slot start.base.shape slot) lawful.1.in_range in
-    let with_word : FitWith start contents past tag row slot ((coding_of start.base).encoded (serial_of start.base.session tag) row (data_of contents tag)) new after =
+    let range : has_slot start.base.shape slot ≡ true =
+        second_holds (nat_lt row start.base.shape.rows) (has_slot start.base.shape slot) lawful.1.in_range in
+    let with_word : FitWith start contents past tag row slot
+        ((coding_of start.base).encoded (serial_of start.base.session tag) row (data_of contents tag)) new after =
     subst (λ (w : List ℕ). FitWith start contents past tag row slot w new after) word_is
-    (program_fits ladder start contents past tag row slot word sum after old new is_start lawful.0 next range due is after_is fit) in
+    (program_fits ladder start contents past tag row slot word sum after old new is_start lawful.0 next range due is after_is
+    fit) in
     fits_counted start contents past (made tag (Kind.Write row slot)) old new sum after fit (λ die. refl)
     (λ die lt. programmed_counted start slot word (bytes_sum word sum) old new is die)
     with_word.pages
@@ -140,7 +161,8 @@ write_fits ladder start contents past tag row slot word sum after old new is_sta
     with_word.sums
 
 -- after a lawful copy of the word that its look's ladder recovered
-pub move_fits : (ladder : List Entry → ℕ → LadderState) (start : Start) (contents : List (Tag × List ℕ)) (past : List Entry) (tag : Tag) (at : ℕ) (slot : Slot) (word sum after : List ℕ) (old new : List DieState)
+pub move_fits : (ladder : List Entry → ℕ → LadderState) (start : Start) (contents : List (Tag × List ℕ)) (past : List Entry)
+    (tag : Tag) (at : ℕ) (slot : Slot) (word sum after : List ℕ) (old new : List DieState)
     → IsStart start → IsLawfulBy ladder start.base (made tag (Kind.Move at slot) ∷ past)
     → word ≡ word_recovered (ladder_of (coding_of start.base) start contents past at)
     → AreDue start.base.shape (blocks_of start.base past) old
@@ -149,11 +171,14 @@ pub move_fits : (ladder : List Entry → ℕ → LadderState) (start : Start) (c
     → DiesFit start contents past old sum → DiesFit start contents (made tag (Kind.Move at slot) ∷ past) new after
 move_fits ladder start contents past tag at slot word sum after old new is_start lawful word_is due is after_is fit =
     let next : next_slot start.base past ≡ Some slot =
-    of_some (open_look past tag at) (λ look. IsLawfulMove (ladder past at) start.base past look slot) (λ look move. move.is_programmed.is_next) lawful.1.meets in
+    of_some (open_look past tag at) (λ look. IsLawfulMove (ladder past at) start.base past look slot)
+    (λ look move. move.is_programmed.is_next) lawful.1.meets in
     let range : has_slot start.base.shape slot ≡ true = lawful.1.in_range in
-    let with_word : FitWith start contents past tag 0 slot (word_recovered (ladder_of (coding_of start.base) start contents past at)) new after =
+    let with_word : FitWith start contents past tag 0 slot
+        (word_recovered (ladder_of (coding_of start.base) start contents past at)) new after =
     subst (λ (w : List ℕ). FitWith start contents past tag 0 slot w new after) word_is
-    (program_fits ladder start contents past tag 0 slot word sum after old new is_start lawful.0 next range due is after_is fit) in
+    (program_fits ladder start contents past tag 0 slot word sum after old new is_start lawful.0 next range due is after_is
+    fit) in
     fits_counted start contents past (made tag (Kind.Move at slot)) old new sum after fit (λ die. refl)
     (λ die lt. programmed_counted start slot word (bytes_sum word sum) old new is die)
     with_word.pages

@@ -18,21 +18,27 @@ use Rattle.chan_dies.specs.DiesState.{blocks_told, levels_at, levels_by}
 use Rattle.chan_fits.specs.DiesFit.{DiesFit}
 use Rattle.chan_fits.proofs.PlacesInRange.{place_in_range}
 
-levels_stored : (base : ChannelBase) (page : Option StoredPage) → unwrap_or (option_map (λ stored. stored.levels) page) (empty_levels base) ≡ levels_in base page
+levels_stored : (base : ChannelBase) (page : Option StoredPage)
+    → unwrap_or (option_map (λ stored. stored.levels) page) (empty_levels base) ≡ levels_in base page
 levels_stored base None = refl
 levels_stored base (Some page) = refl
 
 -- the levels of a page of the dies are those of the past
-pub levels_are : (start : Start) (contents : List (Tag × List ℕ)) (past : List Entry) (dies : List DieState) (sum : List ℕ) (place : Place)
-    → IsTrue (has_place start.base.shape place) → DiesFit start contents past dies sum → levels_at dies place ≡ levels_of (coding_of start.base) start contents past place
+pub levels_are : (start : Start) (contents : List (Tag × List ℕ)) (past : List Entry) (dies : List DieState) (sum : List ℕ)
+    (place : Place)
+    → IsTrue (has_place start.base.shape place) → DiesFit start contents past dies sum
+    → levels_at dies place ≡ levels_of (coding_of start.base) start contents past place
 levels_are start contents past dies sum place range fit =
-    ap {B = List ℤ} (λ (plan : Option DiePlan). levels_by plan (blocks_told dies place.die) place.sb place.page) (fit.plans_are place.die (place_in_range start.base.shape place range).die)
+    ap {B = List ℤ} (λ (plan : Option DiePlan). levels_by plan (blocks_told dies place.die) place.sb place.page)
+        (fit.plans_are place.die (place_in_range start.base.shape place range).die)
     ∙ sym (unwrap_or-slice_get (cells_at (blocks_told dies place.die) place.sb).pages place.page (empty_levels start.base))
     ∙ ap {B = List ℤ} (λ (levels : Option (List ℤ)). unwrap_or levels (empty_levels start.base)) (fit.pages_are place range)
     ∙ levels_stored start.base (page_of (coding_of start.base) start contents past place)
 
 -- so a sense gives the past's bits
-pub sensed_is : (start : Start) (contents : List (Tag × List ℕ)) (past : List Entry) (dies : List DieState) (sum : List ℕ) (place : Place) (level : ℤ)
+pub sensed_is : (start : Start) (contents : List (Tag × List ℕ)) (past : List Entry) (dies : List DieState) (sum : List ℕ)
+    (place : Place) (level : ℤ)
     → IsTrue (has_place start.base.shape place) → DiesFit start contents past dies sum
     → sensed level (levels_at dies place) ≡ sense_of (coding_of start.base) start contents past place level
-sensed_is start contents past dies sum place level range fit = ap {B = List ℕ} (sensed level) (levels_are start contents past dies sum place range fit)
+sensed_is start contents past dies sum place level range fit =
+    ap {B = List ℕ} (sensed level) (levels_are start contents past dies sum place range fit)

@@ -13,13 +13,14 @@ use Rattle.ssd_histories.specs.Start.{Start, cells_at_start}
 use Rattle.ssd_histories.specs.States.{is_bad}
 use Rattle.onfi_cmd.specs.DieState.{DieState, programmed_in}
 use Rattle.chan_dies.specs.DiesState.{die_at}
-use Rattle.chan_fits.specs.DiesFit.{AreDue, DiesFit, TellStart}
+use Rattle.chan_fits.specs.DiesFit.{AreDue, DiesFit, AreDiesOfStart}
 use Rattle.chan_fits.proofs.FirstSum.{sum_at_start}
 use Rattle.chan_fits.proofs.Frontiers.{state_at_start}
 use Rattle.chan_fits.proofs.PlacesInRange.{place_in_range}
 
 -- the superblocks of the base are due in the dies
-pub start_due : (start : Start) (dies : List DieState) → IsStart start → TellStart start dies → AreDue start.base.shape start.base.blocks dies
+pub start_due : (start : Start) (dies : List DieState) → IsStart start → AreDiesOfStart start dies
+    → AreDue start.base.shape start.base.blocks dies
 start_due start dies is_start tell = record {
   blocks_count = λ die lt. (tell die lt).blocks_count;
   pages_due = λ die sb lt within good.
@@ -39,7 +40,8 @@ none_more : (count now top : ℕ) → now ≡ count → min (count + 0) top ≤ 
 none_more count now top e = omega arith
 
 -- the dies fit the start
-pub start_fits : (start : Start) (contents : List (Tag × List ℕ)) (dies : List DieState) (sum : List ℕ) → IsStart start → TellStart start dies → sum ≡ start.base.sum
+pub start_fits : (start : Start) (contents : List (Tag × List ℕ)) (dies : List DieState) (sum : List ℕ) → IsStart start
+    → AreDiesOfStart start dies → sum ≡ start.base.sum
     → DiesFit start contents [] dies sum
 start_fits start contents dies sum is_start tell sum_is = record {
   plans_are = λ die lt. (tell die lt).plan_is;
@@ -48,7 +50,8 @@ start_fits start contents dies sum is_start tell sum_is = record {
       (tell place.die (place_in_range start.base.shape place range).die).blocks_are
       ∙ image_levels (slice_get (cells_at_start start place.die place.sb).pages place.page);
   erases_are = λ die sb lt within good.
-      let sound : IsFalse (is_bad (start_block sb).state) = subst (λ (state : SbState). IsFalse (is_bad state)) (state_at_start start sb is_start within) good in
+      let sound : IsFalse (is_bad (start_block sb).state) =
+          subst (λ (state : SbState). IsFalse (is_bad state)) (state_at_start start sb is_start within) good in
       let due : AreDue start.base.shape start.base.blocks dies = start_due start dies is_start tell in
       omega (arith, due.erases_due die sb lt within sound);
   counts = λ die lt. record {

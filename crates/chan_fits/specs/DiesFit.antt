@@ -1,7 +1,8 @@
 -- Do the dies of a channel hold what its past says? Each die has its plan, each page the levels that the past gives it,
 -- each superblock that isn't bad its erases, and the counts of faults rose as the entries tell. Superblocks that are kept
 -- as a table are due in the dies where each die has the pages and the erases that the table asks of it.
-use Rattle.std.specs.Prelude.{ℕ, ◌≡◌, ◌<◌, IsTrue, IsFalse, List, [], length, ℤ, slice_get, slice_index_or, Option, Some, option_map}
+use Rattle.std.specs.Prelude.{ℕ, ◌≡◌, ◌<◌, IsTrue, IsFalse, List, [], length, ℤ, slice_get, slice_index_or, Option, Some}
+use Rattle.std.specs.Prelude.{option_map}
 use Rattle.ssd_geo.specs.BlockCells.{cells_at}
 use Rattle.ssd_geo.specs.Coding.{coding_of}
 use Rattle.ssd_geo.specs.Superblock.{due_pages}
@@ -36,14 +37,19 @@ told_erases dies die sb = (cells_at (blocks_told dies die) sb).erases
 
 -- the levels of a page by the past, where it is programmed
 abbrev pub stored_levels : Start → List (Tag × List ℕ) → List Entry → Place → Option (List ℤ)
-stored_levels start contents past place = option_map (λ stored. stored.levels) (page_of (coding_of start.base) start contents past place)
+stored_levels start contents past place =
+    option_map (λ stored. stored.levels) (page_of (coding_of start.base) start contents past place)
 
 -- the dies and the running sum are those of a start after a past
-pub record DiesFit (start : Start) (contents : List (Tag × List ℕ)) (past : List Entry) (dies : List DieState) (sum : List ℕ) : Type 0 where
+pub record DiesFit (start : Start) (contents : List (Tag × List ℕ)) (past : List Entry) (dies : List DieState)
+    (sum : List ℕ) : Type 0 where
   pub plans_are : (die : ℕ) → die < start.base.shape.dies → (die_at dies die).plan ≡ Some (plan_of start.base die)
-  pub pages_are : (place : Place) → IsTrue (has_place start.base.shape place) → told_page dies place ≡ stored_levels start contents past place
+  pub pages_are :
+      (place : Place) → IsTrue (has_place start.base.shape place)
+      → told_page dies place ≡ stored_levels start contents past place
   pub erases_are :
-      (die sb : ℕ) → die < start.base.shape.dies → sb < start.base.shape.superblocks → IsFalse (is_bad (state_of start.base past sb))
+      (die sb : ℕ) → die < start.base.shape.dies → sb < start.base.shape.superblocks
+      → IsFalse (is_bad (state_of start.base past sb))
       → told_erases dies die sb ≡ erases_of start.base past sb
   pub counts :
       (die : ℕ) → die < start.base.shape.dies
@@ -62,7 +68,7 @@ pub record AreDue (shape : Shape) (blocks : List BlockBase) (dies : List DieStat
       → told_erases dies die sb ≡ (block_at blocks sb).erases
 
 -- a die of a start: it has its plan, tells all its blocks, and these and its counts are the start's
-pub record TellsStart (start : Start) (die : ℕ) (state : DieState) : Type 0 where
+pub record IsDieOfStart (start : Start) (die : ℕ) (state : DieState) : Type 0 where
   pub plan_is : state.plan ≡ Some (plan_of start.base die)
   pub blocks_are : blocks_in state ≡ slice_index_or start.cells die []
   pub blocks_count : length (blocks_in state) ≡ start.base.shape.superblocks
@@ -70,5 +76,5 @@ pub record TellsStart (start : Start) (die : ℕ) (state : DieState) : Type 0 wh
   pub loads_are : state.load_count ≡ count_at start.load_faults die
 
 -- the dies of a start
-abbrev pub TellStart : Start → List DieState → Type 0
-TellStart start dies = (die : ℕ) → die < start.base.shape.dies → TellsStart start die (die_at dies die)
+abbrev pub AreDiesOfStart : Start → List DieState → Type 0
+AreDiesOfStart start dies = (die : ℕ) → die < start.base.shape.dies → IsDieOfStart start die (die_at dies die)

@@ -24,7 +24,7 @@ use Rattle.chan_dies.specs.Erasing.{CanCountErases, ErasesFirst, StopsErase}
 use Rattle.chan_dies.specs.OneDie.{AgesBlock, ChangesDie, FaultsDie, KeepsDie, RefusesBlock}
 use Rattle.chan_dies.specs.Programming.{HasNextPages, IsProgrammed, StopsProgram, sum_after}
 use Rattle.chan_dies.specs.declared.ends.ProgramEnd.{ProgramEnd}
-use Rattle.chan_fits.specs.DiesFit.{AreDue, DiesFit, TellStart}
+use Rattle.chan_fits.specs.DiesFit.{AreDue, DiesFit, AreDiesOfStart}
 use Rattle.ssd_geo.specs.declared.base.BlockBase.{BlockBase}
 use Rattle.ssd_geo.specs.declared.entry.Entry.{Entry}
 use Rattle.ssd_geo.specs.declared.kind.Kind.{Kind}
@@ -39,11 +39,13 @@ StopsDie sb false old new = RefusesBlock sb old new
 StopsDie sb true old new = FaultsDie old new
 
 -- a word was programmed into a slot, and a program of one stopped at a die; each with what became of the running sum
-pub record SlotProgrammed (shape : Shape) (slot : Slot) (word : List ℕ) (old new : List DieState) (sum after : List ℕ) : Type 0 where
+pub record SlotProgrammed (shape : Shape) (slot : Slot) (word : List ℕ) (old new : List DieState)
+    (sum after : List ℕ) : Type 0 where
   pub dies : IsProgrammed shape slot word (bytes_sum word sum) old new
   pub sum_is : after ≡ sum_after shape slot (bytes_sum word sum) ProgramEnd.Programmed
 
-pub record SlotStopped (shape : Shape) (slot : Slot) (word : List ℕ) (die : ℕ) (fault : Bool) (old new : List DieState) (after : List ℕ) : Type 0 where
+pub record SlotStopped (shape : Shape) (slot : Slot) (word : List ℕ) (die : ℕ) (fault : Bool) (old new : List DieState)
+    (after : List ℕ) : Type 0 where
   pub dies : StopsProgram shape slot word die (StopsDie slot.sb fault) old new
   pub sum_is : after ≡ zero_word (word_bytes_in shape)
 
@@ -63,35 +65,44 @@ DiesChange shape (Kind.Move at slot) word old new sum after = SlotProgrammed sha
 DiesChange shape (Kind.BadWrite row slot die fault) word old new sum after = SlotStopped shape slot word die fault old new after
 DiesChange shape (Kind.BadCopy at slot die fault) word old new sum after = SlotStopped shape slot word die fault old new after
 DiesChange shape (Kind.Erase sb) word old new sum after = SumStays (ErasesFirst shape.dies sb) old new sum after
-DiesChange shape (Kind.BadErase sb die fault) word old new sum after = SumStays (StopsErase shape.dies sb die (StopsDie sb fault)) old new sum after
+DiesChange shape (Kind.BadErase sb die fault) word old new sum after =
+    SumStays (StopsErase shape.dies sb die (StopsDie sb fault)) old new sum after
 DiesChange shape (Kind.Sense at place level) word old new sum after = SumStays (ChangesDie place.die KeepsDie) old new sum after
-DiesChange shape (Kind.FaultSense at place level) word old new sum after = SumStays (ChangesDie place.die FaultsDie) old new sum after
-DiesChange shape (Kind.Age die sb amount) word old new sum after = SumStays (ChangesDie die (AgesBlock sb amount)) old new sum after
+DiesChange shape (Kind.FaultSense at place level) word old new sum after =
+    SumStays (ChangesDie place.die FaultsDie) old new sum after
+DiesChange shape (Kind.Age die sb amount) word old new sum after =
+    SumStays (ChangesDie die (AgesBlock sb amount)) old new sum after
 DiesChange shape (Kind.FaultAge die sb amount) word old new sum after = SumStays (ChangesDie die FaultsDie) old new sum after
 DiesChange shape _ word old new sum after = SumStays AllStay old new sum after
+
+-- the word that an entry programs, if it programs one
+abbrev pub word_of_entry : Start → List (Tag × List ℕ) → List Entry → Tag → Kind → List ℕ
+word_of_entry start contents past tag kind =
+    let coding = coding_of start.base in
+    word_programmed coding start contents (senses_of coding start contents past) past tag kind
 
 -- the dies fit a past with one more lawful entry, where they fitted it before and changed as the entry says
 abbrev pub DiesFitAfterEntry : Type 0
 DiesFitAfterEntry =
-    (ladder : List Entry → ℕ → LadderState) (start : Start) (contents : List (Tag × List ℕ)) (past : List Entry) (tag : Tag) (kind : Kind)
-    (word : List ℕ) (old new : List DieState) (sum after : List ℕ) →
+    (ladder : List Entry → ℕ → LadderState) (start : Start) (contents : List (Tag × List ℕ)) (past : List Entry) (tag : Tag)
+    (kind : Kind) (word : List ℕ) (old new : List DieState) (sum after : List ℕ) →
     IsStart start → IsLawfulBy ladder start.base (entry_of tag kind ∷ past) →
-    word ≡ word_programmed (coding_of start.base) start contents (senses_of (coding_of start.base) start contents past) past tag kind →
+    word ≡ word_of_entry start contents past tag kind →
     DiesChange start.base.shape kind word old new sum after →
     AreDue start.base.shape (blocks_of start.base past) old → DiesFit start contents past old sum →
     DiesFit start contents (entry_of tag kind ∷ past) new after
 
 -- what a table allows an entry to name: the next slot for a program, the victim for an erase, a superblock that is sealed
 -- for a pick, and one of the channel for an ageing
-pub record IsNextIn (shape : Shape) (blocks : List BlockBase) (slot : Slot) : Type 0 where
+pub record IsNextSlot (shape : Shape) (blocks : List BlockBase) (slot : Slot) : Type 0 where
   pub is_next : next_slot_of blocks ≡ Some slot
   pub in_range : IsTrue (has_slot shape slot)
 
 abbrev pub TableAllows : Shape → List BlockBase → Kind → Type 0
-TableAllows shape blocks (Kind.Write row slot) = IsNextIn shape blocks slot
-TableAllows shape blocks (Kind.Move at slot) = IsNextIn shape blocks slot
-TableAllows shape blocks (Kind.BadWrite row slot die fault) = IsNextIn shape blocks slot
-TableAllows shape blocks (Kind.BadCopy at slot die fault) = IsNextIn shape blocks slot
+TableAllows shape blocks (Kind.Write row slot) = IsNextSlot shape blocks slot
+TableAllows shape blocks (Kind.Move at slot) = IsNextSlot shape blocks slot
+TableAllows shape blocks (Kind.BadWrite row slot die fault) = IsNextSlot shape blocks slot
+TableAllows shape blocks (Kind.BadCopy at slot die fault) = IsNextSlot shape blocks slot
 TableAllows shape blocks (Kind.Erase sb) = victim_in blocks ≡ Some sb
 TableAllows shape blocks (Kind.BadErase sb die fault) = victim_in blocks ≡ Some sb
 TableAllows shape blocks (Kind.Pick sb) = IsTrue (is_sealed (block_at blocks sb).state)
@@ -101,7 +112,8 @@ TableAllows shape blocks _ = ⊤
 -- a table stays due in the dies, where it allows an entry and the dies changed as that says
 abbrev pub DueAfterEntry : Type 0
 DueAfterEntry =
-    (slots : ℕ) (shape : Shape) (blocks : List BlockBase) (kind : Kind) (word : List ℕ) (old new : List DieState) (sum after : List ℕ) →
+    (slots : ℕ) (shape : Shape) (blocks : List BlockBase) (kind : Kind) (word : List ℕ) (old new : List DieState)
+    (sum after : List ℕ) →
     length blocks ≡ shape.superblocks → TableAllows shape blocks kind → DiesChange shape kind word old new sum after →
     AreDue shape blocks old → AreDue shape (blocks_after slots kind blocks) new
 
@@ -113,12 +125,13 @@ pub record FitsItsStart (start : Start) (contents : List (Tag × List ℕ)) (die
 abbrev pub DiesFitTheirStart : Type 0
 DiesFitTheirStart =
     (start : Start) (contents : List (Tag × List ℕ)) (dies : List DieState) →
-    IsStart start → TellStart start dies → FitsItsStart start contents dies
+    IsStart start → AreDiesOfStart start dies → FitsItsStart start contents dies
 
 -- a sense of a page of the dies gives the bits that the past gives
 abbrev pub SensesAreThePasts : Type 0
 SensesAreThePasts =
-    (start : Start) (contents : List (Tag × List ℕ)) (past : List Entry) (dies : List DieState) (sum : List ℕ) (place : Place) (level : ℤ) →
+    (start : Start) (contents : List (Tag × List ℕ)) (past : List Entry) (dies : List DieState) (sum : List ℕ)
+    (place : Place) (level : ℤ) →
     IsTrue (has_place start.base.shape place) → DiesFit start contents past dies sum →
     sensed level (levels_at dies place) ≡ sense_of (coding_of start.base) start contents past place level
 
@@ -133,10 +146,11 @@ WeakBlocksAreThePasts =
 -- the next slot of a table that is due may be programmed in the dies, and its superblocks that aren't bad can be erased where
 -- the table can count that
 pub record AllowsSteps (shape : Shape) (blocks : List BlockBase) (dies : List DieState) : Type 0 where
-  pub programs : (slot : Slot) → IsNextIn shape blocks slot → HasNextPages shape slot dies
+  pub programs : (slot : Slot) → IsNextSlot shape blocks slot → HasNextPages shape slot dies
   pub erases :
       (sb : ℕ) → sb < shape.superblocks → IsFalse (is_bad (block_at blocks sb).state)
       → (block_at blocks sb).erases < 2 ^ 32 - 1 → CanCountErases shape.dies sb dies
 
 abbrev pub DueTablesAllowSteps : Type 0
-DueTablesAllowSteps = (shape : Shape) (blocks : List BlockBase) (dies : List DieState) → AreDue shape blocks dies → AllowsSteps shape blocks dies
+DueTablesAllowSteps = (shape : Shape) (blocks : List BlockBase) (dies : List DieState) → AreDue shape blocks dies
+    → AllowsSteps shape blocks dies
