@@ -1,0 +1,3 @@
+pub mod ChangedBlocks
+pub mod OperationLemmas
+pub mod Mounted
