@@ -1,3 +1,4 @@
 pub mod ChangedBlocks
+pub mod HeldDies
 pub mod OperationLemmas
 pub mod Mounted
