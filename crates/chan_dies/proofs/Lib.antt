@@ -1,3 +1,4 @@
+pub mod BothPages
 pub mod ChangedBlocks
 pub mod HeldDies
 pub mod OperationLemmas
