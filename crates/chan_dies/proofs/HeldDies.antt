@@ -1,14 +1,14 @@
 -- What becomes of one die becomes of the list of dies, and the dies stay mounted.
-use Rattle.std.proofs.Common.{◌≡◌, ℕ, ◌<◌, ◌≢◌, true, List, length, map, set, get_or, sym, subst, ap, ◌∙◌, inl, inr, arith, length-set, get_or-set_same}
-use Rattle.std.specs.Prelude.{Option, Some, IsSomeAnd, is_some}
+use Rattle.std.proofs.Common.{◌≡◌, ℕ, ◌<◌, ◌≢◌, true, Result, Ok, Err, List, length, map, set, get_or, sym, subst, ap, ◌∙◌, refl, inl, inr, arith, length-set, get_or-set_same}
+use Rattle.std.specs.Prelude.{Option, Some, IsSomeAnd, is_some, OnErr, OnOk}
 use Rattle.std.proofs.lemmas.Bool.{cases_eq}
 use Rattle.std.proofs.lemmas.List.{get_or-map, get_or-set_other, length-map, map-set}
 use Rattle.ssd_geo.specs.BlockCells.{BlockCells}
 use Rattle.ssd_geo.specs.declared.shape.Shape.{Shape}
 use Rattle.onfi_cmd.specs.DieState.{DieState}
 use Rattle.onfi_cmd.specs.declared.plan.DiePlan.{DiePlan}
-use Rattle.chan_dies.specs.DiesState.{AreMounted, IsMountedDie, IsPlanOf, die_at, no_die}
-use Rattle.chan_dies.specs.OneDie.{ChangesDie, ErasesBlock, FaultsDie, HoldsNow, KeepsDie, PutsPage}
+use Rattle.chan_dies.specs.DiesState.{AreMounted, IsMountedDie, IsPlanOf, DiesState, die_at, no_die}
+use Rattle.chan_dies.specs.OneDie.{AgesBlock, ChangesDie, ChangesOneDie, ErasesBlock, FaultsDie, HoldsNow, KeepsDie, PutsPage}
 use Rattle.chan_dies.specs.Operations.{EndsAs}
 use Rattle.chan_dies.specs.declared.one_die.DieEnd.{DieEnd}
 
@@ -82,3 +82,37 @@ put_mounted shape number sb page word old new mounted puts = held_mounted shape 
 
 pub erased_mounted : (shape : Shape) (number sb : ℕ) → KeepsMounted shape number (ErasesBlock sb)
 erased_mounted shape number sb old new mounted erases = held_mounted shape number old new _ mounted erases.holds
+
+pub aged_mounted : (shape : Shape) (number sb amount : ℕ) → KeepsMounted shape number (AgesBlock sb amount)
+aged_mounted shape number sb amount old new mounted ages = held_mounted shape number old new _ mounted ages
+
+-- a die of the list is mounted
+pub one_is_mounted : {D : Type 0} (state : D → DieState) (shape : Shape) (dies : List D) (i : ℕ) (one : D) → AreMounted shape (map state dies) →
+    i < shape.dies → one ≡ get_or dies i one → IsMountedDie shape i (state one)
+one_is_mounted state shape dies i one mounted within is =
+    subst (λ (held : DieState). IsMountedDie shape i held)
+    (seen_at state dies i one (omega (arith, length-map dies state, mounted.count_is)) is) (mounted.each i within)
+
+-- all dies stay mounted where the one that is another now is
+pub one_stays_mounted : {D : Type 0} (state : D → DieState) (shape : Shape) (dies : List D) (i : ℕ) (one other : D) →
+    AreMounted shape (map state dies) → i < shape.dies → one ≡ get_or dies i one → IsMountedDie shape i (state other) →
+    AreMounted shape (map state (set dies i other))
+one_stays_mounted state shape dies i one other mounted within is h =
+    let Stays : DieState → DieState → Type 0 = λ old new. IsMountedDie shape i new in
+    changed_mounted shape i Stays (map state dies) (map state (set dies i other)) (λ old new before after. after) within mounted
+    (one_changed state dies i one other Stays (omega (arith, length-map dies state, mounted.count_is)) is h)
+
+-- a die stays mounted, whether its call passed or failed
+pub result_mounted : {T E : Type 0} (result : Result T E) (shape : Shape) (number : ℕ) (P : DieState → DieState → Type 0) (old new : DieState) →
+    KeepsMounted shape number P → IsMountedDie shape number old → OnOk result (P old new) → OnErr result (FaultsDie old new) →
+    IsMountedDie shape number new
+result_mounted (Ok x) shape number P old new keep mounted ok err = keep old new mounted ok
+result_mounted (Err e) shape number P old new keep mounted ok err = faulted_mounted shape number old new mounted err
+
+-- what became of one die, seen beside the sizes and the sum
+pub seen_change : (shape : Shape) (sum : List ℕ) (before after : List DieState) (held : DiesState) (die : ℕ) (P : DieState → DieState → Type 0) →
+    record { shape = shape; dies = before; sum = sum } ≡ held → ChangesDie die P before after →
+    ChangesOneDie die P held (record { shape = shape; dies = after; sum = sum })
+seen_change shape sum before after held die P seen changes =
+    subst (λ (old : DiesState). ChangesOneDie die P old (record { shape = shape; dies = after; sum = sum })) seen
+    (record { shape_stays = refl; sum_stays = refl; dies = changes })

@@ -5,7 +5,7 @@ ghost use Rattle.ssd_geo.specs.StripeLaws.{IsPlace, IsSlot};
 
 use crate::erasing::erase_dies;
 use crate::one_die::{age_block, sense_page};
-use crate::programming::{is_last, program_dies};
+use crate::programming::{is_open_after, program_dies};
 use crate::{EraseEnd, ProgramEnd};
 use die_parity::StripeSum;
 use onfi_cmd::{Cycle, Die, DieFailed};
@@ -96,7 +96,7 @@ impl<D: Die> Dies<D> {
             word,
             self.sum.bytes(),
         );
-        if end != ProgramEnd::Programmed || is_last(&self.shape, slot) {
+        if !is_open_after(&self.shape, slot, end) {
             self.sum.clear();
         }
         end

@@ -5,7 +5,7 @@ ghost use Rattle.ssd_geo.specs.StripeLaws.{IsPlace, IsSlot};
 ghost use Rattle.chan_dies.specs.DiesState.{AreMounted, programmed_at};
 ghost use Rattle.chan_dies.specs.OneDie.{ChangesDie, PutsPage};
 ghost use Rattle.chan_dies.specs.Operations.{EndsAs};
-ghost use Rattle.chan_dies.specs.Programming.{EndsProgram, HasNextPages};
+ghost use Rattle.chan_dies.specs.Programming.{EndsProgram, HasNextPages, is_open_after};
 
 use crate::ProgramEnd;
 use crate::one_die::{DieEnd, program_page};
@@ -49,8 +49,18 @@ pub(crate) fn program_dies<D: Die>(
     }
 }
 
-/// Whether a slot is the last of its stripe.
-pub(crate) fn is_last(shape: &Shape, slot: Slot) -> bool
+/// Whether a stripe is open after a program of a slot.
+pub(crate) fn is_open_after(shape: &Shape, slot: Slot, end: ProgramEnd) -> bool
+    ensures { result ≡ is_open_after shape.now slot end }
+{
+    match end {
+        ProgramEnd::Programmed => !is_last(shape, slot),
+        ProgramEnd::Failed { .. } | ProgramEnd::Fault { .. } => false,
+    }
+}
+
+// Whether a slot is the last of its stripe.
+fn is_last(shape: &Shape, slot: Slot) -> bool
     ensures { result ≡ is_last_of_stripe shape.now.dies slot.index }
 {
     let data = shape.dies as u32 - 1;
