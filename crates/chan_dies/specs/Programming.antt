@@ -1,7 +1,7 @@
 -- What becomes of the dies where a word is programmed into a slot? The slot's page takes the word, and with the last slot of
 -- a stripe the parity's page takes the sum of the stripe's words. A program that stops retires the superblock, so
 -- that no stripe is open after it.
-use Rattle.std.specs.Prelude.{ℕ, ◌≡◌, ◌≢◌, ◌⊎◌, IsTrue, List, length, if◌then◌else◌}
+use Rattle.std.specs.Prelude.{ℕ, ◌≡◌, ◌≢◌, ◌⊎◌, IsTrue, Bool, false, not, List, length, if◌then◌else◌}
 use Rattle.ssd_geo.specs.Bits.{bytes_sum}
 use Rattle.ssd_geo.specs.Coding.{word_bytes_in}
 use Rattle.ssd_geo.specs.Stripe.{is_last_of_stripe, place_of_parity, place_of_slot, stripe_of_index}
@@ -80,6 +80,12 @@ sum_after shape slot sum ProgramEnd.Programmed =
     if is_last_of_stripe shape.dies slot.index then zero_word (word_bytes_in shape) else sum
 sum_after shape slot sum (ProgramEnd.Failed die) = zero_word (word_bytes_in shape)
 sum_after shape slot sum (ProgramEnd.Fault die) = zero_word (word_bytes_in shape)
+
+-- whether a stripe is open after a program of a slot
+abbrev pub is_open_after : Shape → Slot → ProgramEnd → Bool
+is_open_after shape slot ProgramEnd.Programmed = not (is_last_of_stripe shape.dies slot.index)
+is_open_after shape slot (ProgramEnd.Failed die) = false
+is_open_after shape slot (ProgramEnd.Fault die) = false
 
 -- a program of a word into a slot, as it ended
 pub record Programs (old new : DiesState) (slot : Slot) (word : List ℕ) (end : ProgramEnd) : Type 0 where
