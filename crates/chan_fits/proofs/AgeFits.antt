@@ -112,8 +112,12 @@ age_fits start contents past tag die sb amount sum old new low within due change
     (λ other lt. elim (cases_eq other die) [
       | inl here ↦
           subst (λ (n : ℕ). StaysCounted (die_at old n) (die_at new n)) (sym here)
-          (record { plan_stays = changes.changed.plan_stays; works_stay = changes.changed.works_stay; loads_stay =
-          changes.changed.loads_stay })
+          (record {
+            plan_stays = changes.changed.plan_stays;
+            works_stay = changes.changed.works_stay;
+            loads_stay =
+                changes.changed.loads_stay;
+          })
       | inr far ↦ same_counted (die_at old other) (die_at new other) (changes.others other far)
     ])
     (age_pages start contents past die sb amount sum old new fit low within (due.blocks_count die low) changes)

@@ -41,7 +41,7 @@ pub counts_more : (start : Start) (past : List Entry) (entry : Entry) (die : ℕ
     → CountsFaults start (entry ∷ past) die new.work_count new.load_count
 counts_more start past entry die old new told rose loads counts =
     let one_more : faults_of die (entry ∷ past) ≡ 1 + faults_of die past = more_faults die entry past
-        ∙ ap {B = ℕ} (λ (b : Bool). cond b 1 0 + faults_of die past) told in
+    ∙ ap {B = ℕ} (λ (b : Bool). cond b 1 0 + faults_of die past) told in
     record {
       work_rose =
           subst (λ (n : ℕ). RoseBy n (count_at start.work_faults die) new.work_count) (sym one_more)

@@ -210,8 +210,11 @@ pub due_picked : (shape : Shape) (blocks : List BlockBase) (dies : List DieState
 due_picked shape blocks dies sb count good due =
     due_but_one shape blocks dies dies sb (victim_block (block_at blocks sb)) count
     (λ die lt. record { as_many = refl; elsewhere = λ other differ. refl })
-    (λ sound die lt within. record { pages = due.pages_due die sb lt within good; erases =
-    due.erases_due die sb lt within good })
+    (λ sound die lt within. record {
+      pages = due.pages_due die sb lt within good;
+      erases =
+          due.erases_due die sb lt within good;
+    })
     due
 
 -- as many blocks, with as many pages each, erased as often
@@ -231,8 +234,11 @@ aged_counts : (plan : Option DiePlan) (blocks : List BlockCells) (sb amount : �
     → CountsAsMuch blocks (aged_by plan blocks sb amount)
 aged_counts None blocks sb amount lt = same_counts blocks blocks refl
 aged_counts (Some plan) blocks sb amount lt = record {
-  as_many = length-set blocks sb (record { pages =
-      map (map (aged_level plan.law.erased amount)) (cells_at blocks sb).pages; erases = (cells_at blocks sb).erases });
+  as_many = length-set blocks sb (record {
+    pages =
+        map (map (aged_level plan.law.erased amount)) (cells_at blocks sb).pages;
+    erases = (cells_at blocks sb).erases;
+  });
   pages = λ other. as_many_aged plan.law.erased blocks sb amount other lt;
   erases = λ other. erased_as_often plan.law.erased blocks sb amount other lt;
 }

@@ -76,16 +76,16 @@ due_but_one shape blocks old new sb to count keeps there due = record {
       | inl same ↦
           let low : sb < shape.superblocks = omega arith in
           let now : block_at (set blocks sb to) other ≡ to = ap {B = BlockBase} (block_at (set blocks sb to)) same
-              ∙ here_now blocks sb to (omega arith) in
+          ∙ here_now blocks sb to (omega arith) in
           subst (λ (block : BlockBase). IsDueIn shape block new die other) (sym now)
           (subst (λ (n : ℕ). IsDueIn shape to new die n) (sym same)
           (there (subst (λ (block : BlockBase). IsFalse (is_bad block.state)) now good) die lt low))
       | inr differ ↦
           let now : block_at (set blocks sb to) other ≡ block_at blocks other = elsewhere_now blocks sb other to differ in
           let sound : IsFalse (is_bad (block_at blocks other).state) =
-              subst (λ (block : BlockBase). IsFalse (is_bad block.state)) now good in
+          subst (λ (block : BlockBase). IsFalse (is_bad block.state)) now good in
           let cells : cells_at (blocks_told new die) other ≡ cells_at (blocks_told old die) other =
-              (keeps die lt).elsewhere other differ in
+          (keeps die lt).elsewhere other differ in
           subst (λ (block : BlockBase). IsDueIn shape block new die other) (sym now)
           (record {
             pages = ap {B = ℕ} (λ (c : BlockCells). length c.pages) cells ∙ due.pages_due die other lt within sound;

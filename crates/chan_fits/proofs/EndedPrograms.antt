@@ -47,8 +47,11 @@ pub program_is_lawful : (start : Start) (contents : List (Tag × List ℕ)) (pas
     → DiesFit start contents past old sum → next_slot start.base past ≡ Some slot → IsTrue (has_slot start.base.shape slot)
     → EndsProgram start.base.shape slot word total old new end → IsLawfulProgram start.base past slot end
 program_is_lawful start contents past slot word total sum old new ProgramEnd.Programmed fit next range ends =
-    record { is_next = next; none_weak = programmed_none_weak start contents past slot word total sum old new fit next range
-        ends }
+    record {
+      is_next = next;
+      none_weak = programmed_none_weak start contents past slot word total sum old new fit next range
+          ends;
+    }
 program_is_lawful start contents past slot word total sum old new (ProgramEnd.Failed die) fit next range ends = record {
   is_next = next;
   may_fail =

@@ -160,7 +160,7 @@ unerased_with start contents past entry sb die sum P old new after due tells sto
   pages = λ place range.
       let low = (place_in_range start.base.shape place range).die in
       by_order (told_page new place ≡ changed_levels start contents past [] place
-          (change_when (place.sb == sb && nat_lt place.die die) empties)) place.die die
+      (change_when (place.sb == sb && nat_lt place.die die) empties)) place.die die
       (λ lt. page_by_erase start contents past sum sb old new place (nat_lt place.die die) fit range
       (test_less place.die die lt)
       (erased_below die sb old new stops.below place.die lt) (due.blocks_count place.die low))
@@ -203,9 +203,9 @@ pub bad_erase_fits : (ladder : List Entry → ℕ → LadderState) (start : Star
 bad_erase_fits ladder start contents past tag sb die sum old new lawful due stops fit =
     let entry : Entry = made tag (Kind.BadErase sb die false) in
     let after : blocks_of start.base (entry ∷ past) ≡ with_retired (blocks_of start.base past) sb =
-        blocks_after_entry ladder start.base entry past lawful in
+    blocks_after_entry ladder start.base entry past lawful in
     let there : UnerasedWith start contents past entry sb die sum new =
-        unerased_with start contents past entry sb die sum (RefusesBlock sb) old new after due (refused_tells sb) stops fit in
+    unerased_with start contents past entry sb die sum (RefusesBlock sb) old new after due (refused_tells sb) stops fit in
     fits_counted start contents past entry old new sum sum fit (λ other. refl)
     (λ other lt. elim (cases_eq other die) [
       | inl here ↦ subst (λ (n : ℕ). StaysCounted (die_at old n) (die_at new n)) (sym here)
@@ -224,9 +224,9 @@ pub fault_erase_fits : (ladder : List Entry → ℕ → LadderState) (start : St
 fault_erase_fits ladder start contents past tag sb die sum old new lawful due stops fit =
     let entry : Entry = made tag (Kind.BadErase sb die true) in
     let after : blocks_of start.base (entry ∷ past) ≡ with_retired (blocks_of start.base past) sb =
-        blocks_after_entry ladder start.base entry past lawful in
+    blocks_after_entry ladder start.base entry past lawful in
     let there : UnerasedWith start contents past entry sb die sum new =
-        unerased_with start contents past entry sb die sum FaultsDie old new after due faulted_tells stops fit in
+    unerased_with start contents past entry sb die sum FaultsDie old new after due faulted_tells stops fit in
     fits_faulted start contents past entry die old new sum sum fit (λ other. refl) stops.stopped
     (λ other lt far. other_dies_counted start.base.shape.dies sb die FaultsDie old new stops other far)
     there.pages there.due
@@ -250,10 +250,10 @@ pub pick_fits : (ladder : List Entry → ℕ → LadderState) (start : Start) (c
 pick_fits ladder start contents past tag sb sum dies lawful due fit =
     let entry : Entry = made tag (Kind.Pick sb) in
     let after : blocks_of start.base (entry ∷ past) ≡ with_victim (blocks_of start.base past) sb =
-        blocks_after_entry ladder start.base entry past lawful in
+    blocks_after_entry ladder start.base entry past lawful in
     let low : sb < start.base.shape.superblocks = below sb start.base.shape.superblocks lawful.1.in_range in
     let sealed : is_sealed (block_at (blocks_of start.base past) sb).state ≡ true =
-        candidate_sealed start.base past sb low lawful.1.meets.is_candidate in
+    candidate_sealed start.base past sb low lawful.1.meets.is_candidate in
     fits_counted start contents past entry dies dies sum sum fit (λ die. refl)
     (λ die lt. kept_counted (die_at dies die) (die_at dies die) (keeps_itself (die_at dies die)))
     fit.pages_are

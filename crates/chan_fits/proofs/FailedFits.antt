@@ -97,7 +97,7 @@ failed_pages start contents past slot word sum die P old new tells may stops pla
         → told_page new place ≡ changed (change_by_failed start.base.shape.dies slot die place)
     at_slot first =
         let other : (die == parity) ≡ false = test_other die parity
-            (λ e. dies_differ start.base.shape slot may.range (sym first.is_slot ∙ e)) in
+        (λ e. dies_differ start.base.shape slot may.range (sym first.is_slot ∙ e)) in
         stays (λ i. change_if (other i) (is_place place slot_place))
         (page_stays old new place (elim (cases_eq place.die die) as
         (λ _. blocks_told new place.die ≡ blocks_told old place.die) [
@@ -109,7 +109,7 @@ failed_pages start contents past slot word sum die P old new tells may stops pla
         → told_page new place ≡ changed (change_by_failed start.base.shape.dies slot die place)
     at_parity second true here =
         subst (λ (p : Place). told_page new p ≡ changed_levels start contents past word p
-            (change_by_failed start.base.shape.dies slot die place)) (sym (same_place place slot_place here))
+        (change_by_failed start.base.shape.dies slot die place)) (sym (same_place place slot_place here))
         (put_levels start contents past slot slot_place word sum old new may refl there.slot_range may.next.of_slot
         second.slot_page
         ∙ sym (ap {B = Option (List ℤ)} (changed_levels start contents past word slot_place)
@@ -237,15 +237,15 @@ stopped_with : (ladder : List Entry → ℕ → LadderState) (start : Start) (co
     → DiesFit start contents past old sum → StoppedWith start contents past entry slot word die new
 stopped_with ladder start contents past entry slot word sum die P old new is_start lawful next range states after due tells
     stops fit = record {
-  pages = failed_pages start contents past slot word sum die P old new tells
-      (may_program start contents past slot old sum next range due fit) stops;
-  due =
-      subst (λ (blocks : List BlockBase). AreDue start.base.shape blocks new) (sym after)
-      (due_retired start.base.shape (blocks_of start.base past) old new slot.sb (blocks_number start past)
-      (λ other lt. stopped_blocks start.base.shape slot word die P old new tells stops other) due);
-  sums = failed_sum start contents past entry slot
-      (one_frontier ladder start.base past (one_at_start start is_start) lawful) next states;
-}
+      pages = failed_pages start contents past slot word sum die P old new tells
+          (may_program start contents past slot old sum next range due fit) stops;
+      due =
+          subst (λ (blocks : List BlockBase). AreDue start.base.shape blocks new) (sym after)
+          (due_retired start.base.shape (blocks_of start.base past) old new slot.sb (blocks_number start past)
+          (λ other lt. stopped_blocks start.base.shape slot word die P old new tells stops other) due);
+      sums = failed_sum start contents past entry slot
+          (one_frontier ladder start.base past (one_at_start start is_start) lawful) next states;
+    }
 
 -- the middle of three tests
 middle_holds : (a b d : Bool) → (a && b && d) ≡ true → b ≡ true
@@ -279,10 +279,10 @@ pub bad_write_fits : (ladder : List Entry → ℕ → LadderState) (start : Star
 bad_write_fits ladder start contents past tag row slot die word sum old new is_start lawful word_is due stops fit =
     let next : next_slot start.base past ≡ Some slot = lawful.1.meets.is_failed.is_next in
     let range : has_slot start.base.shape slot ≡ true =
-        middle_holds (nat_lt row start.base.shape.rows) (has_slot start.base.shape slot)
-        (nat_lt die start.base.shape.dies) lawful.1.in_range in
+    middle_holds (nat_lt row start.base.shape.rows) (has_slot start.base.shape slot)
+    (nat_lt die start.base.shape.dies) lawful.1.in_range in
     let there : StoppedWith start contents past (made tag (Kind.BadWrite row slot die false)) slot
-        ((coding_of start.base).encoded (serial_of start.base.session tag) row (data_of contents tag)) die new =
+    ((coding_of start.base).encoded (serial_of start.base.session tag) row (data_of contents tag)) die new =
     subst (λ (w : List ℕ). StoppedWith start contents past (made tag (Kind.BadWrite row slot die false)) slot w die new) word_is
     (stopped_with ladder start contents past (made tag (Kind.BadWrite row slot die false)) slot word sum die
     (RefusesBlock slot.sb) old new is_start lawful.0 next range
@@ -306,10 +306,10 @@ pub fault_write_fits : (ladder : List Entry → ℕ → LadderState) (start : St
 fault_write_fits ladder start contents past tag row slot die word sum old new is_start lawful word_is due stops fit =
     let next : next_slot start.base past ≡ Some slot = lawful.1.meets.is_failed.is_next in
     let range : has_slot start.base.shape slot ≡ true =
-        middle_holds (nat_lt row start.base.shape.rows) (has_slot start.base.shape slot)
-        (nat_lt die start.base.shape.dies) lawful.1.in_range in
+    middle_holds (nat_lt row start.base.shape.rows) (has_slot start.base.shape slot)
+    (nat_lt die start.base.shape.dies) lawful.1.in_range in
     let there : StoppedWith start contents past (made tag (Kind.BadWrite row slot die true)) slot
-        ((coding_of start.base).encoded (serial_of start.base.session tag) row (data_of contents tag)) die new =
+    ((coding_of start.base).encoded (serial_of start.base.session tag) row (data_of contents tag)) die new =
     subst (λ (w : List ℕ). StoppedWith start contents past (made tag (Kind.BadWrite row slot die true)) slot w die new) word_is
     (stopped_with ladder start contents past (made tag (Kind.BadWrite row slot die true)) slot word sum die FaultsDie old new
     is_start lawful.0 next range
@@ -331,13 +331,13 @@ pub bad_copy_fits : (ladder : List Entry → ℕ → LadderState) (start : Start
     → DiesFit start contents past old sum
     → DiesFit start contents (made tag (Kind.BadCopy at slot die false) ∷ past) new (zero_word (word_bytes_in start.base.shape))
 bad_copy_fits ladder start contents past tag at slot die word sum old new is_start lawful word_is due stops fit =
-    let next : next_slot start.base past ≡ Some slot = 
+    let next : next_slot start.base past ≡ Some slot =
     of_some (open_look past tag at) (λ look. IsLawfulBadCopy (ladder past at) start.base past look slot die false)
     (λ look copy. copy.is_failed.is_next) lawful.1.meets in
     let range : has_slot start.base.shape slot ≡ true =
-        first_holds (has_slot start.base.shape slot) (nat_lt die start.base.shape.dies) lawful.1.in_range in
+    first_holds (has_slot start.base.shape slot) (nat_lt die start.base.shape.dies) lawful.1.in_range in
     let there : StoppedWith start contents past (made tag (Kind.BadCopy at slot die false)) slot
-        (word_recovered (ladder_of (coding_of start.base) start contents past at)) die new =
+    (word_recovered (ladder_of (coding_of start.base) start contents past at)) die new =
     subst (λ (w : List ℕ). StoppedWith start contents past (made tag (Kind.BadCopy at slot die false)) slot w die new) word_is
     (stopped_with ladder start contents past (made tag (Kind.BadCopy at slot die false)) slot word sum die
     (RefusesBlock slot.sb) old new is_start lawful.0 next range
@@ -358,13 +358,13 @@ pub fault_copy_fits : (ladder : List Entry → ℕ → LadderState) (start : Sta
     → DiesFit start contents past old sum
     → DiesFit start contents (made tag (Kind.BadCopy at slot die true) ∷ past) new (zero_word (word_bytes_in start.base.shape))
 fault_copy_fits ladder start contents past tag at slot die word sum old new is_start lawful word_is due stops fit =
-    let next : next_slot start.base past ≡ Some slot = 
+    let next : next_slot start.base past ≡ Some slot =
     of_some (open_look past tag at) (λ look. IsLawfulBadCopy (ladder past at) start.base past look slot die true)
     (λ look copy. copy.is_failed.is_next) lawful.1.meets in
     let range : has_slot start.base.shape slot ≡ true =
-        first_holds (has_slot start.base.shape slot) (nat_lt die start.base.shape.dies) lawful.1.in_range in
+    first_holds (has_slot start.base.shape slot) (nat_lt die start.base.shape.dies) lawful.1.in_range in
     let there : StoppedWith start contents past (made tag (Kind.BadCopy at slot die true)) slot
-        (word_recovered (ladder_of (coding_of start.base) start contents past at)) die new =
+    (word_recovered (ladder_of (coding_of start.base) start contents past at)) die new =
     subst (λ (w : List ℕ). StoppedWith start contents past (made tag (Kind.BadCopy at slot die true)) slot w die new) word_is
     (stopped_with ladder start contents past (made tag (Kind.BadCopy at slot die true)) slot word sum die FaultsDie old new
     is_start lawful.0 next range

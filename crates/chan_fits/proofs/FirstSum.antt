@@ -83,7 +83,7 @@ sum_at_start start contents is_start =
     by_used sb true lt here e =
         zeros_of_none start is_start (λ k lt_k.
         whole_closed (is_frontier (block_before start.base k).state)
-            ((block_before start.base k).used % (start.base.shape.dies - 1) == 0)
+        ((block_before start.base k).used % (start.base.shape.dies - 1) == 0)
         (λ f.
         let same : k ≡ sb = one_at_start start is_start k sb lt_k lt (sym (in_base k lt_k) ∙ f) here in
         subst (λ (n : ℕ). ((block_before start.base n).used % (start.base.shape.dies - 1) == 0) ≡ true) (sym same) e))
@@ -99,12 +99,15 @@ sum_at_start start contents is_start =
     by_frontier : (o : Option ℕ) → (o ≡ None → (k : ℕ) → k < start.base.shape.superblocks
         → is_frontier (state_of start.base [] k) ≡ false)
         → ((sb : ℕ) → o ≡ Some sb → (sb < start.base.shape.superblocks) × (is_frontier (state_of start.base [] sb) ≡ true))
-        → start.base.sum ≡ (elim o as (λ _. List ℕ) [ Some sb ↦ sum_of_open
-        (coding_of start.base) start contents [] sb | None ↦ zero_word (word_bytes_in start.base.shape) ])
+        → start.base.sum ≡ (elim o as (λ _. List ℕ) [
+          | Some sb ↦ sum_of_open
+              (coding_of start.base) start contents [] sb
+          | None ↦ zero_word (word_bytes_in start.base.shape)
+        ])
     by_frontier None none found =
         zeros_of_none start is_start (λ k lt.
         not_frontier_closed (is_frontier (block_before start.base k).state)
-            ((block_before start.base k).used % (start.base.shape.dies - 1) == 0)
+        ((block_before start.base k).used % (start.base.shape.dies - 1) == 0)
         (in_base k lt ∙ none refl k lt))
     by_frontier (Some sb) none found =
         let there : (sb < start.base.shape.superblocks) × (is_frontier (state_of start.base [] sb) ≡ true) = found sb refl in

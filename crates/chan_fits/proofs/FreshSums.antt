@@ -171,7 +171,7 @@ sums_step state start contents past tag (Kind.BadCopy at slot die fault) range c
     h
 sums_step state start contents past tag (Kind.Erase named) range c sb good h =
     λ stripe le. erased_sums (named == sb) _ (zero_word (word_bytes_in start.base.shape))
-        (sum_of (coding_of start.base) start contents past sb stripe)
+    (sum_of (coding_of start.base) start contents past sb stripe)
     (λ e. h stripe (used_before named sb (used_of start.base past sb) (stripe * (start.base.shape.dies - 1)) e le))
 sums_step state start contents past tag (Kind.BadErase named die fault) range c sb good h =
     kept_sums start contents past (made tag (Kind.BadErase named die fault)) sb

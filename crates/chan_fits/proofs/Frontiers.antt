@@ -125,7 +125,7 @@ next_in_frontier base past slot k next frontier =
     let blocks : List BlockBase = blocks_of base past in
     let there : Blocks.next_superblock blocks ≡ Some slot.sb = slot_block blocks (Blocks.next_superblock blocks) slot next in
     let first : Blocks.next_superblock blocks ≡ Some k =
-        ap {B = Option ℕ} (λ (o : Option ℕ). Blocks.first_some o (Blocks.freshest_of blocks)) frontier in
+    ap {B = Option ℕ} (λ (o : Option ℕ). Blocks.first_some o (Blocks.freshest_of blocks)) frontier in
     ap {B = ℕ} (λ (o : Option ℕ). unwrap_or o k) (sym first ∙ there)
 
 -- ---- after the next slot was written
@@ -135,7 +135,7 @@ other_stays : (base : ChannelBase) (past : List Entry) (tag : Tag) (row : ℕ) (
     → state_of base (made tag (Kind.Write row slot) ∷ past) k ≡ state_of base past k
 other_stays base past tag row slot k e =
     ap {B = SbState} (λ (b : Bool). state_by (is_bad_superblock base past k) (is_picked base past k) (slots_in base)
-        (if b then used_of base past k + 1 else used_of base past k)) e
+    (if b then used_of base past k + 1 else used_of base past k)) e
 
 -- a frontier is the superblock of the slot
 pub frontier_is_slots : (base : ChannelBase) (past : List Entry) (tag : Tag) (row : ℕ) (slot : Slot) (k : ℕ)
@@ -185,9 +185,9 @@ slots_is_frontier base past tag row slot next range more =
     usable_unpicked (is_bad_superblock base past slot.sb) (is_picked base past slot.sb) (slots_in base)
     (used_of base past slot.sb) (usable_next base past slot next range) in
     let state : state_of base (made tag (Kind.Write row slot) ∷ past) slot.sb ≡ state_by false false (slots_in base)
-        (used_of base past slot.sb + 1) =
+    (used_of base past slot.sb + 1) =
     λ i. state_by (next_sound base past slot next range i) (picked i) (slots_in base)
-        (one_more_used base past tag row slot i) in
+    (one_more_used base past tag row slot i) in
     rw state (open_state (used_of base past slot.sb) (slots_in base) more)
   where
     open_state : (used slots : ℕ) → (used + 1 == slots) ≡ false → is_frontier (state_by false false slots (used + 1)) ≡ true

@@ -37,7 +37,7 @@ pub sum_stays : (start : Start) (contents : List (Tag × List ℕ)) (past : List
     → running_sum (coding_of start.base) start contents (entry ∷ past) ≡ running_sum (coding_of start.base) start contents past
 sum_stays start contents past entry frontier same =
     ap {B = List ℕ} (sum_by start contents (entry ∷ past)) frontier
-        ∙ by_frontier (Blocks.frontier_of (blocks_of start.base past)) same
+    ∙ by_frontier (Blocks.frontier_of (blocks_of start.base past)) same
   where
     by_frontier : (o : Option ℕ)
         → ((k : ℕ) → o ≡ Some k → sum_of_open (coding_of start.base) start contents (entry ∷ past) k ≡ sum_of_open

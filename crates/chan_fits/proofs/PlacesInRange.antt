@@ -48,7 +48,7 @@ pub has_places : (shape : Shape) (slot : Slot) → IsTrue (has_slot shape slot) 
 has_places shape slot range =
     let two : 2 ≤ shape.dies = omega (arith, shape.within.dies_low) in
     let there : HasPlace shape.dies shape.superblocks shape.pages slot =
-        slots_have_places shape.dies shape.superblocks shape.pages slot two (slot_in_range shape slot range) in
+    slots_have_places shape.dies shape.superblocks shape.pages slot two (slot_in_range shape slot range) in
     record {
       slot_range = place_has_range shape (place_of_slot shape.dies slot) there.place;
       parity_range = place_has_range shape (place_of_parity shape.dies slot.sb (stripe_of_index shape.dies slot.index))

@@ -112,9 +112,9 @@ program_fits : (ladder : List Entry → ℕ → LadderState) (start : Start) (co
     → DiesFit start contents past old sum → FitWith start contents past tag row slot word new after
 program_fits ladder start contents past tag row slot word sum after old new is_start lawful next range due is after_is fit =
     let before : sum ≡ Sums.sum_at start contents past slot = fit.sum_is
-        ∙ Sums.sum_before ladder start contents past slot lawful next range in
+    ∙ Sums.sum_before ladder start contents past slot lawful next range in
     let one : AtMostOne is_frontier start.base past =
-        one_frontier ladder start.base past (one_at_start start is_start) lawful in
+    one_frontier ladder start.base past (one_at_start start is_start) lawful in
     record {
       pages = program_pages start contents past slot word sum old new
           (may_program start contents past slot old sum next range due fit) before is;
@@ -147,9 +147,9 @@ pub write_fits : (ladder : List Entry → ℕ → LadderState) (start : Start) (
 write_fits ladder start contents past tag row slot word sum after old new is_start lawful word_is due is after_is fit =
     let next : next_slot start.base past ≡ Some slot = lawful.1.meets.is_programmed.is_next in
     let range : has_slot start.base.shape slot ≡ true =
-        second_holds (nat_lt row start.base.shape.rows) (has_slot start.base.shape slot) lawful.1.in_range in
+    second_holds (nat_lt row start.base.shape.rows) (has_slot start.base.shape slot) lawful.1.in_range in
     let with_word : FitWith start contents past tag row slot
-        ((coding_of start.base).encoded (serial_of start.base.session tag) row (data_of contents tag)) new after =
+    ((coding_of start.base).encoded (serial_of start.base.session tag) row (data_of contents tag)) new after =
     subst (λ (w : List ℕ). FitWith start contents past tag row slot w new after) word_is
     (program_fits ladder start contents past tag row slot word sum after old new is_start lawful.0 next range due is after_is
     fit) in
@@ -175,7 +175,7 @@ move_fits ladder start contents past tag at slot word sum after old new is_start
     (λ look move. move.is_programmed.is_next) lawful.1.meets in
     let range : has_slot start.base.shape slot ≡ true = lawful.1.in_range in
     let with_word : FitWith start contents past tag 0 slot
-        (word_recovered (ladder_of (coding_of start.base) start contents past at)) new after =
+    (word_recovered (ladder_of (coding_of start.base) start contents past at)) new after =
     subst (λ (w : List ℕ). FitWith start contents past tag 0 slot w new after) word_is
     (program_fits ladder start contents past tag 0 slot word sum after old new is_start lawful.0 next range due is after_is
     fit) in

@@ -41,7 +41,7 @@ pub put_page : (place : Place) (word : List ℕ) (old new : List DieState) → P
     (fresh_in (die_at old place.die) place.sb place.page word)
 put_page place word old new puts lt is =
     ap {B = Option (List ℤ)} (λ (told : List BlockCells). slice_get (cells_at told place.sb).pages place.page)
-        (told_put place word old new puts)
+    (told_put place word old new puts)
     ∙ programmed_page (blocks_told old place.die) place.sb place.page
     (fresh_in (die_at old place.die) place.sb place.page word) lt is
 
@@ -64,15 +64,18 @@ put_other place word old new other puts lt is here differ =
         (cells_at (blocks_told old place.die) other.sb).pages other.page
     by_block (inl same) =
         ap {B = Option (List ℤ)} (λ (n : ℕ). slice_get
-            (cells_at (with_page (blocks_told old place.die) place.sb levels) n).pages other.page) same
+        (cells_at (with_page (blocks_told old place.die) place.sb levels) n).pages other.page) same
         ∙ other_page (blocks_told old place.die) place.sb other.page levels lt
         (λ e. differ (λ i. record { die = here i; sb = same i; page = (e ∙ sym is) i }))
         ∙ ap {B = Option (List ℤ)} (λ (n : ℕ). slice_get (cells_at (blocks_told old place.die) n).pages other.page) (sym same)
     by_block (inr apart_blocks) =
         ap {B = Option (List ℤ)} (λ (c : BlockCells). slice_get c.pages other.page)
         (put_elsewhere (blocks_told old place.die) place.sb other.sb
-        (record { pages = (cells_at (blocks_told old place.die) place.sb).pages ++ levels ∷ []; erases =
-        (cells_at (blocks_told old place.die) place.sb).erases }) apart_blocks)
+        (record {
+          pages = (cells_at (blocks_told old place.die) place.sb).pages ++ levels ∷ [];
+          erases =
+              (cells_at (blocks_told old place.die) place.sb).erases;
+        }) apart_blocks)
 
 -- the levels that a program of a word leaves are those of the past's fresh page
 pub fresh_is : (start : Start) (contents : List (Tag × List ℕ)) (past : List Entry) (dies : List DieState) (sum : List ℕ)
@@ -82,7 +85,7 @@ pub fresh_is : (start : Start) (contents : List (Tag × List ℕ)) (past : List 
     → fresh_in (die_at dies place.die) place.sb place.page word ≡ (fresh_page start.base past place word).levels
 fresh_is start contents past dies sum place word fit lt within good =
     ap {B = List ℤ} (λ (plan : Option DiePlan). programmed_by plan (blocks_told dies place.die) place.sb place.page word)
-        (fit.plans_are place.die lt)
+    (fit.plans_are place.die lt)
     ∙ ap {B = List ℤ} (λ (erases : ℕ). fresh_levels start.base.law
     (number_of_page start.base.shape.dies start.base.shape.superblocks start.base.shape.pages start.base.channel place.die
     place.sb place.page) erases word)
@@ -123,7 +126,7 @@ change_by dies slot here last parity =
 change_here : (dies : ℕ) (slot : Slot) → change_by_program dies slot (place_of_slot dies slot) ≡ programs
 change_here dies slot =
     ap {B = PageChange} (λ (b : Bool). change_by dies slot b (is_last_of_stripe dies slot.index)
-        (is_place (place_of_slot dies slot) (place_of_parity dies slot.sb (stripe_of_index dies slot.index))))
+    (is_place (place_of_slot dies slot) (place_of_parity dies slot.sb (stripe_of_index dies slot.index))))
     (is_place-same (place_of_slot dies slot))
 
 pub not_same : (a b : Place) → a ≢ b → is_place a b ≡ false
@@ -202,8 +205,12 @@ program_pages start contents past slot word sum old new may sum_is is place rang
     changed other change = changed_levels start contents past word other change
 
     long : (other : Place) → IsTrue (has_place start.base.shape other) → slot.sb < length (blocks_told old other.die)
-    long other other_range = omega (arith, (place_in_range start.base.shape slot_place there.slot_range).superblock, may.counts
-        other.die (place_in_range start.base.shape other other_range).die)
+    long other other_range = omega (
+      arith,
+      (place_in_range start.base.shape slot_place there.slot_range).superblock,
+      may.counts
+          other.die (place_in_range start.base.shape other other_range).die,
+    )
 
     at_slot : told_page new slot_place ≡ changed slot_place (change_by_program start.base.shape.dies slot slot_place)
     at_slot =
@@ -253,10 +260,10 @@ program_pages start contents past slot word sum old new may sum_is is place rang
         → told_page new place ≡ changed place (change_by_program start.base.shape.dies slot place)
     by_places true last parity f e g =
         subst (λ (p : Place). told_page new p ≡ changed p (change_by_program start.base.shape.dies slot p))
-            (sym (same_place place slot_place f)) at_slot
+        (sym (same_place place slot_place f)) at_slot
     by_places false true true f e g =
         subst (λ (p : Place). told_page new p ≡ changed p (change_by_program start.base.shape.dies slot p))
-            (sym (same_place place parity_place g)) (at_parity e)
+        (sym (same_place place parity_place g)) (at_parity e)
     by_places false true false f e g =
         stays (two_places place slot_place f) (λ last. two_places place parity_place g)
         (change_elsewhere start.base.shape.dies slot place f (λ i. e i && g i))

@@ -49,8 +49,12 @@ pub record StaysCounted (old new : DieState) : Type 0 where
   pub loads_stay : new.load_count ≡ old.load_count
 
 pub kept_counted : (old new : DieState) → KeepsDie old new → StaysCounted old new
-kept_counted old new keeps = record { plan_stays = keeps.plan_stays; works_stay = keeps.works_stay; loads_stay =
-    keeps.loads_stay }
+kept_counted old new keeps = record {
+  plan_stays = keeps.plan_stays;
+  works_stay = keeps.works_stay;
+  loads_stay =
+      keeps.loads_stay;
+}
 
 pub same_counted : (old new : DieState) → new ≡ old → StaysCounted old new
 same_counted old new same = record {

@@ -30,7 +30,7 @@ pub levels_are : (start : Start) (contents : List (Tag × List ℕ)) (past : Lis
     → levels_at dies place ≡ levels_of (coding_of start.base) start contents past place
 levels_are start contents past dies sum place range fit =
     ap {B = List ℤ} (λ (plan : Option DiePlan). levels_by plan (blocks_told dies place.die) place.sb place.page)
-        (fit.plans_are place.die (place_in_range start.base.shape place range).die)
+    (fit.plans_are place.die (place_in_range start.base.shape place range).die)
     ∙ sym (unwrap_or-slice_get (cells_at (blocks_told dies place.die) place.sb).pages place.page (empty_levels start.base))
     ∙ ap {B = List ℤ} (λ (levels : Option (List ℤ)). unwrap_or levels (empty_levels start.base)) (fit.pages_are place range)
     ∙ levels_stored start.base (page_of (coding_of start.base) start contents past place)

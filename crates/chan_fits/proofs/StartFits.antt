@@ -51,7 +51,7 @@ start_fits start contents dies sum is_start tell sum_is = record {
       ∙ image_levels (slice_get (cells_at_start start place.die place.sb).pages place.page);
   erases_are = λ die sb lt within good.
       let sound : IsFalse (is_bad (start_block sb).state) =
-          subst (λ (state : SbState). IsFalse (is_bad state)) (state_at_start start sb is_start within) good in
+      subst (λ (state : SbState). IsFalse (is_bad state)) (state_at_start start sb is_start within) good in
       let due : AreDue start.base.shape start.base.blocks dies = start_due start dies is_start tell in
       omega (arith, due.erases_due die sb lt within sound);
   counts = λ die lt. record {

@@ -43,8 +43,11 @@ sum_by start contents past o = elim o [
 -- the sum of a superblock's open stripe, by whether a stripe is open
 abbrev sum_in : Start → List (Tag × List ℕ) → List Entry → ℕ → ℕ → Bool → List ℕ
 sum_in start contents past sb stripe whole =
-    elim whole [ true ↦ zero_word (word_bytes_in start.base.shape) | false ↦ sum_of
-    (coding_of start.base) start contents past sb stripe ]
+    elim whole [
+      | true ↦ zero_word (word_bytes_in start.base.shape)
+      | false ↦ sum_of
+          (coding_of start.base) start contents past sb stripe
+    ]
 
 -- the sum of the data words of the next slot's stripe
 abbrev pub sum_at : Start → List (Tag × List ℕ) → List Entry → Slot → List ℕ
@@ -157,7 +160,7 @@ not_last_slot n w pages pos e = by_test (n + 1 == pages * w) refl
     by_test : (b : Bool) → (n + 1 == pages * w) ≡ b → (n + 1 == pages * w) ≡ false
     by_test true f =
         absurd (zero_test ((n + 1) % w) (ap {B = ℕ} (λ (k : ℕ). k % w) (same (n + 1) (pages * w) f) ∙ mul-mod_left pages w)
-            (open_is_not_whole n w pos e))
+        (open_is_not_whole n w pos e))
     by_test false f = f
 
 -- the sum of a stripe after the next slot was programmed with a word, by a write or by a copy
@@ -220,7 +223,7 @@ sum_after start contents past tag row slot word one next range =
         → open_with start contents past tag row slot word slot.sb ≡ zero_word (word_bytes_in start.base.shape)
     begins_anew e =
         ap {B = List ℕ} (in_with start contents past slot word slot.sb
-            (used_of start.base (made tag (Kind.Write row slot) ∷ past) slot.sb / (start.base.shape.dies - 1)))
+        (used_of start.base (made tag (Kind.Write row slot) ∷ past) slot.sb / (start.base.shape.dies - 1)))
         (ap {B = Bool} (λ (n : ℕ). n % (start.base.shape.dies - 1) == 0) used
         ∙ last_is_whole slot.index (start.base.shape.dies - 1) w_pos e)
 
@@ -257,7 +260,7 @@ sum_after start contents past tag row slot word one next range =
         ≡ bytes_sum word (sum_at start contents past slot)
     goes_on e =
         ap {B = List ℕ} (in_with start contents past slot word slot.sb
-            (used_of start.base (made tag (Kind.Write row slot) ∷ past) slot.sb / (start.base.shape.dies - 1)))
+        (used_of start.base (made tag (Kind.Write row slot) ∷ past) slot.sb / (start.base.shape.dies - 1)))
         (ap {B = Bool} (λ (n : ℕ). n % (start.base.shape.dies - 1) == 0) used
         ∙ open_is_not_whole slot.index (start.base.shape.dies - 1) w_pos e)
         ∙ ap {B = List ℕ} (sum_with start contents past slot word slot.sb)
@@ -271,7 +274,7 @@ sum_after start contents past tag row slot word one next range =
         by_frontier (Blocks.frontier_of (blocks_of start.base (made tag (Kind.Write row slot) ∷ past)))
         (λ k found.
         let there : (k < start.base.shape.superblocks) ×
-            (is_frontier (state_of start.base (made tag (Kind.Write row slot) ∷ past) k) ≡ true) =
+        (is_frontier (state_of start.base (made tag (Kind.Write row slot) ∷ past) k) ≡ true) =
         found_block start.base (made tag (Kind.Write row slot) ∷ past) Blocks.is_frontier_block k found in
         frontier_is_slots start.base past tag row slot k one next there.0 there.1)
         e

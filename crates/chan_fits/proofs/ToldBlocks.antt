@@ -67,8 +67,11 @@ erases_stay blocks sb other levels lt = elim (cases_eq other sb) [
       ∙ ap {B = ℕ} (λ (n : ℕ). (cells_at blocks n).erases) (sym same)
   | inr differ ↦
       ap {B = ℕ} (λ (cells : BlockCells). cells.erases)
-      (put_elsewhere blocks sb other (record { pages = (cells_at blocks sb).pages ++ levels ∷ []; erases =
-      (cells_at blocks sb).erases }) differ)
+      (put_elsewhere blocks sb other (record {
+        pages = (cells_at blocks sb).pages ++ levels ∷ [];
+        erases =
+            (cells_at blocks sb).erases;
+      }) differ)
 ]
 
 -- ---- an erase
@@ -89,15 +92,21 @@ pub aged_here : (erased : ℤ) (blocks : List BlockCells) (sb amount page : ℕ)
     (slice_get (cells_at blocks sb).pages page)
 aged_here erased blocks sb amount page lt =
     ap {B = Option (List ℤ)} (λ (cells : BlockCells). slice_get cells.pages page)
-    (put_here blocks sb (record { pages = map (map (aged_level erased amount)) (cells_at blocks sb).pages; erases =
-    (cells_at blocks sb).erases }) lt)
+    (put_here blocks sb (record {
+      pages = map (map (aged_level erased amount)) (cells_at blocks sb).pages;
+      erases =
+          (cells_at blocks sb).erases;
+    }) lt)
     ∙ slice_get-map (map (aged_level erased amount)) (cells_at blocks sb).pages page
 
 pub aged_elsewhere : (erased : ℤ) (blocks : List BlockCells) (sb amount other : ℕ) → other ≢ sb
     → cells_at (with_aged erased blocks sb amount) other ≡ cells_at blocks other
 aged_elsewhere erased blocks sb amount other differ =
-    put_elsewhere blocks sb other (record { pages = map (map (aged_level erased amount)) (cells_at blocks sb).pages; erases =
-        (cells_at blocks sb).erases }) differ
+    put_elsewhere blocks sb other (record {
+      pages = map (map (aged_level erased amount)) (cells_at blocks sb).pages;
+      erases =
+          (cells_at blocks sb).erases;
+    }) differ
 
 -- ageing leaves as many pages, erased as often
 pub as_many_aged : (erased : ℤ) (blocks : List BlockCells) (sb amount other : ℕ) → sb < length blocks
@@ -106,8 +115,11 @@ as_many_aged erased blocks sb amount other lt = elim (cases_eq other sb) [
   | inl same ↦
       ap {B = ℕ} (λ (n : ℕ). programmed_in (with_aged erased blocks sb amount) n) same
       ∙ ap {B = ℕ} (λ (cells : BlockCells). length cells.pages)
-      (put_here blocks sb (record { pages = map (map (aged_level erased amount)) (cells_at blocks sb).pages; erases =
-      (cells_at blocks sb).erases }) lt)
+      (put_here blocks sb (record {
+        pages = map (map (aged_level erased amount)) (cells_at blocks sb).pages;
+        erases =
+            (cells_at blocks sb).erases;
+      }) lt)
       ∙ length-map (cells_at blocks sb).pages (map (aged_level erased amount))
       ∙ ap {B = ℕ} (λ (n : ℕ). programmed_in blocks n) (sym same)
   | inr differ ↦ ap {B = ℕ} (λ (cells : BlockCells). length cells.pages) (aged_elsewhere erased blocks sb amount other differ)
@@ -119,8 +131,11 @@ erased_as_often erased blocks sb amount other lt = elim (cases_eq other sb) [
   | inl same ↦
       ap {B = ℕ} (λ (n : ℕ). (cells_at (with_aged erased blocks sb amount) n).erases) same
       ∙ ap {B = ℕ} (λ (cells : BlockCells). cells.erases)
-      (put_here blocks sb (record { pages = map (map (aged_level erased amount)) (cells_at blocks sb).pages; erases =
-      (cells_at blocks sb).erases }) lt)
+      (put_here blocks sb (record {
+        pages = map (map (aged_level erased amount)) (cells_at blocks sb).pages;
+        erases =
+            (cells_at blocks sb).erases;
+      }) lt)
       ∙ ap {B = ℕ} (λ (n : ℕ). (cells_at blocks n).erases) (sym same)
   | inr differ ↦ ap {B = ℕ} (λ (cells : BlockCells). cells.erases) (aged_elsewhere erased blocks sb amount other differ)
 ]

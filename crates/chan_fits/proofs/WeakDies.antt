@@ -71,7 +71,7 @@ pub victim_there : (base : ChannelBase) (past : List Entry) (sb : ℕ) → victi
     → (sb < base.shape.superblocks) × IsFalse (is_bad (state_of base past sb))
 victim_there base past sb victim =
     let found : (sb < base.shape.superblocks) × (is_victim (state_of base past sb) ≡ true) =
-        found_block base past is_victim_block sb victim in
+    found_block base past is_victim_block sb victim in
     (found.0, victim_good (state_of base past sb) found.1)
 
 -- ---- a program
@@ -86,7 +86,7 @@ pub are_dies_of : (shape : Shape) (slot : Slot) → IsTrue (has_slot shape slot)
 are_dies_of shape slot range =
     let there : HasPlaces shape slot = has_places shape slot range in
     let place : IsPlace shape.dies shape.superblocks shape.pages (page_of_slot shape slot) =
-        place_in_range shape (page_of_slot shape slot) there.slot_range in
+    place_in_range shape (page_of_slot shape slot) there.slot_range in
     record {
       slot_die = place.die;
       parity = (place_in_range shape (parity_of_slot shape slot) there.parity_range).die;
@@ -172,7 +172,7 @@ stopped_may_fail start contents past slot word sum die fault P old new fit next 
         → (fault || is_weak start.base past slot.sb other) ≡ true
     may other lt stopped =
         ap {B = Bool} (λ (b : Bool). fault || b)
-            (sym (weak_is start contents past old sum other slot.sb fit lt dies.superblock good)) ∙ cause other stopped
+        (sym (weak_is start contents past old sum other slot.sb fit lt dies.superblock good)) ∙ cause other stopped
 
 -- ---- an erase
 
@@ -192,7 +192,7 @@ below_not_weak : (start : Start) (contents : List (Tag × List ℕ)) (past : Lis
     → (die : ℕ) → die < bound → is_weak start.base past sb die ≡ false
 below_not_weak start contents past bound sb sum old new fit victim le below die lt =
     let there : (sb < start.base.shape.superblocks) × IsFalse (is_bad (state_of start.base past sb)) =
-        victim_there start.base past sb victim in
+    victim_there start.base past sb victim in
     sym (weak_is start contents past old sum die sb fit (omega arith) there.0 there.1) ∙ (below die lt).not_weak
 
 -- an erase that passed met no weak block
@@ -239,7 +239,7 @@ pub unerased_may_fail : (start : Start) (contents : List (Tag × List ℕ)) (pas
     → IsTrue (may_fail_on start.base past sb (dies_in start.base) die fault)
 unerased_may_fail start contents past sb sum die fault P old new fit victim cause stops =
     let there : (sb < start.base.shape.superblocks) × IsFalse (is_bad (state_of start.base past sb)) =
-        victim_there start.base past sb victim in
+    victim_there start.base past sb victim in
     let low : die < start.base.shape.dies = stops.in_range in
     range_may_fail start.base past sb die 0 start.base.shape.dies fault (omega arith) (omega arith)
     (below_not_weak start contents past die sb sum old new fit victim (omega arith) stops.below)
