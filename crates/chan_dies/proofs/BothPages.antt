@@ -1,5 +1,5 @@
 -- What the programs of a slot's page and then of its parity's page leave together.
-use Rattle.std.proofs.Common.{◌≡◌, ℕ, ◌≢◌, List, length, sym, subst, ap, ◌∙◌, inr, refl}
+use Rattle.std.proofs.Common.{◌≡◌, ℕ, ◌≢◌, List, sym, subst, ap, ◌∙◌, inr, refl}
 use Rattle.ssd_geo.specs.Stripe.{parity_die, place_of_parity, stripe_of_index}
 use Rattle.ssd_geo.specs.declared.place.Place.{Place}
 use Rattle.ssd_geo.specs.declared.shape.Shape.{Shape}

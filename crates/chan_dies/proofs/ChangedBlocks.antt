@@ -1,5 +1,5 @@
 -- A program or an erase of a block of a mounted die ends as the block's weakness says.
-use Rattle.std.proofs.Common.{◌≡◌, ℕ, Bool, true, false, Result, Ok, List, [], sym, subst, ap, ◌∙◌, refl}
+use Rattle.std.proofs.Common.{◌≡◌, ℕ, Bool, true, false, Ok, List, [], sym, subst, ap, ◌∙◌, refl}
 use Rattle.std.specs.Prelude.{Option, Some, None, IfSome, IsSomeAnd, IsFalse, ◌==◌, is_some, if◌then◌else◌}
 use Rattle.std.specs.Option.{unwrap_or}
 use Rattle.ssd_geo.specs.BlockCells.{BlockCells, cells_at}
@@ -7,12 +7,12 @@ use Rattle.ssd_geo.specs.declared.place.Place.{Place}
 use Rattle.ssd_geo.specs.declared.shape.Shape.{Shape}
 use Rattle.onfi_cmd.specs.Addresses.{block_of_row, page_of_row}
 use Rattle.onfi_cmd.specs.DieCalls.{HasOutcome, IsWorkCall}
-use Rattle.onfi_cmd.specs.DieState.{DieState, Outcome, changes_unless_weak, is_weak, outcome_of, programmed_levels, status_failed, status_passed, with_erased, with_page}
+use Rattle.onfi_cmd.specs.DieState.{DieState, changes_unless_weak, is_weak, outcome_of, programmed_levels, status_failed, status_passed, with_page}
 use Rattle.onfi_cmd.specs.declared.op.Op.{Op}
 use Rattle.onfi_cmd.specs.declared.op.Op.TheVariants.{Program}
 use Rattle.onfi_cmd.specs.declared.plan.DiePlan.{DiePlan}
 use Rattle.onfi_cmd.specs.declared.stop.DieFailed.{DieFailed}
-use Rattle.chan_dies.specs.DiesState.{IsMountedDie, blocks_in, fresh_in, has_weak, is_weak_by, programmed_by}
+use Rattle.chan_dies.specs.DiesState.{IsMountedDie, has_weak, is_weak_by, programmed_by}
 use Rattle.chan_dies.specs.OneDie.{HoldsNow, PutsPage}
 use Rattle.chan_dies.specs.Operations.{DoesOperation, EndsAs, end_told}
 use Rattle.chan_dies.specs.declared.one_die.DieEnd.{DieEnd}
@@ -45,9 +45,9 @@ pub done : (shape : Shape) (old new : DieState) (op : Op) (bytes : List ℕ) (st
     DoesOperation old new op bytes status out → HasOutcome (outcome_of t.plan t.blocks old.read_level old.last_status op bytes) new status out
 done shape old new op bytes status out t does =
     let planned = subst (λ (plan : Option DiePlan). IfSome plan (λ p. IfSome old.told (λ blocks.
-        HasOutcome (outcome_of p blocks old.read_level old.last_status op bytes) new status out))) t.plan_is does in
+    HasOutcome (outcome_of p blocks old.read_level old.last_status op bytes) new status out))) t.plan_is does in
     subst (λ (told : Option (List BlockCells)). IfSome told (λ blocks.
-        HasOutcome (outcome_of t.plan blocks old.read_level old.last_status op bytes) new status out)) t.told_are planned
+    HasOutcome (outcome_of t.plan blocks old.read_level old.last_status op bytes) new status out)) t.told_are planned
 
 -- whether a block is weak, of what is told
 weak_told : (shape : Shape) (state : DieState) (sb : ℕ) (t : Tells shape state) → has_weak state sb ≡ is_weak t.plan sb (cells_at t.blocks sb).erases
@@ -57,7 +57,7 @@ weak_told shape state sb t = (λ i. is_weak_by (t.plan_is i) (unwrap_or (t.told_
 ends_by : (P : DieState → DieState → Type 0) (old new : DieState) (blocks after : List BlockCells) (sb status : ℕ) (out : List ℕ)
     (end : DieEnd) (weak : Bool) → has_weak old sb ≡ weak → old.told ≡ Some blocks → IsWorkCall {T = ℕ} {E = DieFailed} old new (Ok status) →
     HasOutcome (if weak then record { blocks = blocks; read_level = old.read_level; status = status_failed; answer = [] }
-        else record { blocks = after; read_level = old.read_level; status = status_passed; answer = [] }) new status out →
+    else record { blocks = after; read_level = old.read_level; status = status_passed; answer = [] }) new status out →
     end ≡ end_told (status == status_failed) → (IsFalse (has_weak old sb) → HoldsNow old new after → P old new) → EndsAs P sb end old new
 ends_by P old new blocks after sb status out end true weak_is told work had ended passes =
     let failed : end ≡ DieEnd.Failed = ended ∙ ap (λ (s : ℕ). end_told (s == status_failed)) had.status_is in
@@ -108,11 +108,11 @@ program_ends shape number place row word old new status out end mounted address 
     let t = mounted_tells shape number old mounted in
     let had = done shape old new (Program 0 row) word status out t does in
     let placed = subst (λ (page : ℕ). HasOutcome (changes_unless_weak t.plan t.blocks old.read_level place.sb
-        (with_page t.blocks place.sb (programmed_levels t.plan t.blocks place.sb page word))) new status out)
-        (page_of_plan shape place row t.plan t.shape_is address)
-        (subst (λ (sb : ℕ). HasOutcome (changes_unless_weak t.plan t.blocks old.read_level sb
-        (with_page t.blocks sb (programmed_levels t.plan t.blocks sb (page_of_row t.plan.shape.pages row) word))) new status out)
-        (block_of_plan shape place row t.plan t.shape_is address) had) in
+    (with_page t.blocks place.sb (programmed_levels t.plan t.blocks place.sb page word))) new status out)
+    (page_of_plan shape place row t.plan t.shape_is address)
+    (subst (λ (sb : ℕ). HasOutcome (changes_unless_weak t.plan t.blocks old.read_level sb
+    (with_page t.blocks sb (programmed_levels t.plan t.blocks sb (page_of_row t.plan.shape.pages row) word))) new status out)
+    (block_of_plan shape place row t.plan t.shape_is address) had) in
     ends_unless_weak (PutsPage place.sb place.page word) shape old new
     (with_page t.blocks place.sb (programmed_levels t.plan t.blocks place.sb place.page word)) place.sb status out end t work placed ended
     (λ not_weak holds. record {

@@ -1,6 +1,6 @@
 -- What becomes of one die becomes of the list of dies, and the dies stay mounted.
-use Rattle.std.proofs.Common.{◌≡◌, ℕ, ◌<◌, ◌≢◌, true, Result, Ok, Err, List, length, map, set, get_or, sym, subst, ap, ◌∙◌, refl, inl, inr, arith, length-set, get_or-set_same}
-use Rattle.std.specs.Prelude.{Option, Some, IsSomeAnd, is_some, OnErr, OnOk}
+use Rattle.std.proofs.Common.{◌≡◌, ℕ, ◌<◌, true, Result, Ok, Err, List, length, map, set, get_or, sym, subst, ap, ◌∙◌, refl, inl, inr, arith, length-set, get_or-set_same}
+use Rattle.std.specs.Prelude.{Option, IsSomeAnd, is_some, OnErr, OnOk}
 use Rattle.std.proofs.lemmas.Bool.{cases_eq}
 use Rattle.std.proofs.lemmas.List.{get_or-map, get_or-set_other, length-map, map-set}
 use Rattle.ssd_geo.specs.BlockCells.{BlockCells}
@@ -24,8 +24,8 @@ one_changed state dies i one other P within is h =
     let replaced : map state (set dies i other) ≡ set (map state dies) i (state other) = map-set state dies i other in
     let count : length (map state dies) ≡ length dies = length-map dies state in
     let new_at : die_at (map state (set dies i other)) i ≡ state other =
-        ap (λ (states : List DieState). die_at states i) replaced
-        ∙ get_or-set_same (map state dies) i (state other) no_die (omega arith) in
+    ap (λ (states : List DieState). die_at states i) replaced
+    ∙ get_or-set_same (map state dies) i (state other) no_die (omega arith) in
     record {
       count_stays = ap (λ (states : List DieState). length states) replaced ∙ length-set (map state dies) i (state other);
       others = λ j apart. ap (λ (states : List DieState). die_at states j) replaced ∙ get_or-set_other (map state dies) i j (state other) no_die apart;

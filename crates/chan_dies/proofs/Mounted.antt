@@ -1,6 +1,6 @@
 -- A die that is mounted can do the operations on its pages and blocks.
 use Rattle.std.proofs.Common.{◌≡◌, ℕ, ◌<◌, ◌*◌, List, [], length, sym, subst, ap, ◌∙◌, refl}
-use Rattle.std.specs.Prelude.{Option, Some, None, IfSome}
+use Rattle.std.specs.Prelude.{Option, Some, None}
 use Rattle.std.specs.Option.{unwrap_or}
 use Rattle.ssd_geo.specs.BlockCells.{BlockCells}
 use Rattle.ssd_geo.specs.Coding.{word_bytes_in}
@@ -11,11 +11,11 @@ use Rattle.ssd_geo.specs.declared.place.Place.{Place}
 use Rattle.ssd_geo.specs.declared.shape.Shape.{Shape}
 use Rattle.ssd_geo.proofs.Sizes.{eight_times, whole_eighths}
 use Rattle.onfi_cmd.specs.Addresses.{block_of_row, page_of_row}
-use Rattle.onfi_cmd.specs.DieCalls.{CanDo, IsMountedAnd, IsNextPage, IsRow}
+use Rattle.onfi_cmd.specs.DieCalls.{CanDo, IsBlock, IsMountedAnd, IsNextPage, IsRow}
 use Rattle.onfi_cmd.specs.DieState.{DieState, cells_of_page, programmed_in}
 use Rattle.onfi_cmd.specs.declared.op.Op.TheVariants.{Read, Program}
 use Rattle.onfi_cmd.specs.declared.plan.DiePlan.{DiePlan}
-use Rattle.chan_dies.specs.DiesState.{IsMountedDie, IsPlanOf, blocks_in}
+use Rattle.chan_dies.specs.DiesState.{IsMountedDie, blocks_in}
 use Rattle.chan_dies.proofs.OperationLemmas.{planned_then}
 
 -- a word has a bit for each cell of a page
@@ -69,7 +69,12 @@ can_program shape number place row word state mounted address whole next =
       cells_of_word shape (length word) plan its.shape_is whole,
       refl,
       subst (λ (s : Shape). IsNextPage state.told (block_of_row s.pages row) (page_of_row s.pages row)) (sym its.shape_is)
-      (subst (λ (sb : ℕ). IsNextPage state.told sb (page_of_row shape.pages row)) (sym address.block_is)
-      (subst (λ (page : ℕ). IsNextPage state.told place.sb page) (sym address.page_is) (told_next state.told place.sb place.page next))),
+          (subst (λ (sb : ℕ). IsNextPage state.told sb (page_of_row shape.pages row)) (sym address.block_is)
+          (subst (λ (page : ℕ). IsNextPage state.told place.sb page) (sym address.page_is) (told_next state.told place.sb place.page next))),
     ))
     mounted.mounted
+
+-- a block within the shape is one of a mounted die
+pub is_block : (shape : Shape) (number sb : ℕ) (state : DieState) → IsMountedDie shape number state → sb < shape.superblocks → IsBlock state sb
+is_block shape number sb state mounted within =
+    planned_then state.plan (λ plan its. subst (λ (s : Shape). sb < s.superblocks) (sym its.shape_is) within) mounted.mounted

@@ -1,11 +1,11 @@
 -- A die runs the cycles of an operation where it can do the operation, and what the run did is what the operation does.
-use Rattle.std.proofs.Common.{◌≡◌, ℕ, Result, Ok, List, length, sym, subst, ap, ◌∙◌}
+use Rattle.std.proofs.Common.{◌≡◌, ℕ, Result, List, sym, subst}
 use Rattle.std.proofs.lemmas.Option.{IfSome_then}
 use Rattle.std.proofs.lemmas.Result.{IfOk-weaker}
 use Rattle.std.specs.Prelude.{Option, Some, None, IsSomeAnd}
 use Rattle.std.specs.Prelude.{IfOk, IsOkAnd}
 use Rattle.ssd_geo.specs.BlockCells.{BlockCells}
-use Rattle.onfi_cmd.specs.Cycles.{HasItsBytes, HasItsFeature, HasNoOtherBytes, bytes_of_op, cycles_of}
+use Rattle.onfi_cmd.specs.Cycles.{HasItsBytes, HasItsFeature, bytes_of_op, cycles_of}
 use Rattle.onfi_cmd.specs.DieCalls.{CanDo, CanRun, HasOutcome, IsMountedAnd, Runs}
 use Rattle.onfi_cmd.specs.DieState.{DieState, outcome_of}
 use Rattle.onfi_cmd.specs.Reading.{operation_of}
@@ -27,7 +27,7 @@ can_run_its : (plan : DiePlan) (told : Option (List BlockCells)) (op : Op) (byte
     IsOkAnd (operation_of (cycles_of op bytes)) (λ said_op. CanDo plan told said_op (bytes_of_op said_op (cycles_of op bytes)) room)
 can_run_its plan told op bytes room feature its can =
     let kept : CanDo plan told op (bytes_of_op op (cycles_of op bytes)) room =
-        subst (λ (sent : List ℕ). CanDo plan told op sent room) (sym (sent_bytes op bytes its)) can in
+    subst (λ (sent : List ℕ). CanDo plan told op sent room) (sym (sent_bytes op bytes its)) can in
     subst (λ (read : Result Op CycleFault). IsOkAnd read (λ said_op. CanDo plan told said_op (bytes_of_op said_op (cycles_of op bytes)) room))
     (sym (said op bytes feature its)) kept
 
@@ -45,8 +45,8 @@ ran_its old new op bytes status out feature its ran =
     (λ plan told. IfSome_then old.told told
     (λ blocks done.
     let its_own = subst (λ (read : Result Op CycleFault). IfOk read (λ said_op.
-        HasOutcome (outcome_of plan blocks old.read_level old.last_status said_op (bytes_of_op said_op (cycles_of op bytes))) new status out))
-        (said op bytes feature its) done in
+    HasOutcome (outcome_of plan blocks old.read_level old.last_status said_op (bytes_of_op said_op (cycles_of op bytes))) new status out))
+    (said op bytes feature its) done in
     subst (λ (sent : List ℕ). HasOutcome (outcome_of plan blocks old.read_level old.last_status op sent) new status out)
     (sent_bytes op bytes its) its_own))
 

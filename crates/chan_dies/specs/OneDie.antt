@@ -1,5 +1,6 @@
 -- What may an operation leave of a die? It keeps the die's blocks and counts, or a fault is counted as work, or the blocks
--- are others now. The read level and the kept status are no one's concern but the die's.
+-- are others now. Of the read level and
+-- the kept status nothing is said.
 use Rattle.std.specs.Prelude.{ℕ, ◌≡◌, ◌≢◌, IsTrue, IsFalse, List, length, Option, Some, None}
 use Rattle.ssd_geo.specs.BlockCells.{BlockCells}
 use Rattle.ssd_geo.specs.Faults.{Rose}

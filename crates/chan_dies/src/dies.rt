@@ -119,7 +119,7 @@ impl<D: Die> Dies<D> {
         ensures err { OnErr result (ChangesOneDie die FaultsDie self.old self.new) }
     {
         let aged = &mut self.dies[die as usize];
-        age_block(aged, &self.shape, Place { die, sb, page: 0 }, amount)
+        age_block(aged, sb, amount)
     }
 
     /// Gives the dies back.

@@ -5,7 +5,7 @@ ghost use Rattle.ssd_geo.specs.Cells.{sensed};
 ghost use Rattle.ssd_geo.specs.Coding.{word_bytes_in};
 ghost use Rattle.ssd_geo.specs.StripeLaws.{IsPlace};
 ghost use Rattle.onfi_cmd.specs.Cycles.{HasItsBytes, HasItsFeature, HasRowInRange};
-ghost use Rattle.onfi_cmd.specs.DieCalls.{CanDo, IsMountedAnd, IsWorkCall};
+ghost use Rattle.onfi_cmd.specs.DieCalls.{CanDo, IsBlock, IsMountedAnd, IsWorkCall};
 ghost use Rattle.onfi_cmd.specs.DieState.{programmed_in, status_failed, status_passed};
 ghost use Rattle.chan_dies.specs.DiesState.{IsMountedDie, blocks_in, levels_in};
 ghost use Rattle.chan_dies.specs.OneDie.{AgesBlock, ErasesBlock, FaultsDie, KeepsDie, PutsPage};
@@ -96,20 +96,14 @@ pub(crate) fn erase_block<D: Die>(
     }
 }
 
-/// Ages the block of a place.
-pub(crate) fn age_block<D: Die>(
-    die: &mut D,
-    shape: &Shape,
-    place: Place,
-    amount: u16,
-) -> Result<(), DieFailed>
-    requires mounted { IsMountedDie shape.now place.die (D.state die.old) }
-    requires superblock { place.sb < shape.now.superblocks }
-    ensures ok { OnOk result (AgesBlock place.sb amount (D.state die.old) (D.state die.new)) }
+/// Ages a block.
+pub(crate) fn age_block<D: Die>(die: &mut D, sb: u16, amount: u16) -> Result<(), DieFailed>
+    requires block { IsBlock (D.state die.old) sb }
+    requires tells { is_some (D.state die.old).told ≡ true }
+    ensures ok { OnOk result (AgesBlock sb amount (D.state die.old) (D.state die.new)) }
     ensures err { OnErr result (FaultsDie (D.state die.old) (D.state die.new)) }
 {
-    let _ = shape;
-    die.age(place.sb, amount)
+    die.age(sb, amount)
 }
 
 // Sets the level at which the next pages are sensed.

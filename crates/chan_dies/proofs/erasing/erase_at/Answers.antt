@@ -9,7 +9,7 @@ pub returns-clause-end : goal.returns-clause-end
 returns-clause-end g c =
     let state = g.D.Die.state in
     let within : c.args.place.die < length c.args.dies.now.items =
-        omega (arith, length-map c.args.dies.now.items state, c.requires.mounted.count_is, c.requires.place.die) in
+    omega (arith, length-map c.args.dies.now.items state, c.requires.mounted.count_is, c.requires.place.die) in
     one_changed state c.args.dies.now.items c.args.place.die c.index_mut-die.result.now c.erase_block.new.die
     (EndsAs (ErasesBlock c.args.place.sb) c.args.place.sb c.erase_block.result) within
     c.index_mut-die.ensures.value c.erase_block.ensures.end

@@ -1,4 +1,3 @@
-use Rattle.std.proofs.Common.{length}
 use Rattle.chan_dies.proofs.ChangedBlocks.{program_ends}
 use Rattle.chan_dies.proofs.Mounted.{can_program}
 use Rattle.chan_dies.proofs.one_die.program_page.Goals as goal

@@ -1,5 +1,4 @@
 use Rattle.std.proofs.Common.{◌∙◌, ℕ, map, sym}
-use Rattle.onfi_cmd.specs.DieState.{DieState}
 use Rattle.chan_dies.specs.OneDie.{FaultsDie, RefusesBlock}
 use Rattle.chan_dies.proofs.BothPages.{both_programmed, stopped_at_parity}
 use Rattle.chan_dies.proofs.programming.program_dies.Goals as goal

@@ -1,4 +1,4 @@
-use Rattle.std.proofs.Common.{◌≡◌, ap, sym, ◌∙◌, arith, length, map, ℕ, List}
+use Rattle.std.proofs.Common.{◌≡◌, ap, sym, ◌∙◌, arith, map, ℕ}
 use Rattle.ssd_geo.specs.Coding.{word_bytes_in}
 use Rattle.ssd_geo.specs.declared.shape.Shape.{Shape}
 use Rattle.chan_dies.specs.DiesState.{DiesState}
@@ -15,7 +15,7 @@ pub invariant_of-self : goal.invariant_of-self
 invariant_of-self g c =
     let shape_is : c.self.inside.shape ≡ c.args.self.now.shape = ap {B = Shape} (λ (dies : DiesState). dies.shape) c.self.view_is in
     let size = sum_bytes_stay (word_bytes_in c.self.inside.shape) c.self.inside.sum c.args.word.now c.add.new.self c.self.invariant.sum_bytes
-        (c.requires.word ∙ ap {B = ℕ} (λ (shape : Shape). word_bytes_in shape) (sym shape_is)) c.add.ensures in
+    (c.requires.word ∙ ap {B = ℕ} (λ (shape : Shape). word_bytes_in shape) (sym shape_is)) c.add.ensures in
     record {
       mounted = c.program_dies-end.ensures.mounted;
       sum_bytes = (cleared_bytes (word_bytes_in c.self.inside.shape) c.add.new.self c.clear.new.self size c.clear.ensures).1;
@@ -36,7 +36,7 @@ pub returns-then-not-is_open_after : goal.returns-then-not-is_open_after
 returns-then-not-is_open_after g c =
     let shape_is : c.self.inside.shape ≡ c.args.self.now.shape = ap {B = Shape} (λ (dies : DiesState). dies.shape) c.self.view_is in
     let size = sum_bytes_stay (word_bytes_in c.self.inside.shape) c.self.inside.sum c.args.word.now c.add.new.self c.self.invariant.sum_bytes
-        (c.requires.word ∙ ap {B = ℕ} (λ (shape : Shape). word_bytes_in shape) (sym shape_is)) c.add.ensures in
+    (c.requires.word ∙ ap {B = ℕ} (λ (shape : Shape). word_bytes_in shape) (sym shape_is)) c.add.ensures in
     seen_program c.self.inside.shape (map g.D.Die.state c.self.inside.dies.items) (map g.D.Die.state c.program_dies-end.new.dies.items)
     c.self.inside.sum c.bytes.result.now c.clear.new.self c.args.self.now c.args.slot c.args.word.now c.program_dies-end.result
     c.self.view_is (c.bytes.ensures ∙ c.add.ensures) c.program_dies-end.ensures.end

@@ -21,7 +21,7 @@ invariant_of-self g c =
     let shape_is : c.self.inside.shape ≡ c.args.self.now.shape = ap {B = Shape} (λ (dies : DiesState). dies.shape) c.self.view_is in
     let within : c.args.place.die < c.self.inside.shape.dies = subst (λ (shape : Shape). c.args.place.die < shape.dies) (sym shape_is) c.requires.place.die in
     let one = one_is_mounted state shape c.self.inside.dies.items c.args.place.die c.index_mut-die.result.now c.self.invariant.mounted within
-        c.index_mut-die.ensures.value in
+    c.index_mut-die.ensures.value in
     record {
       mounted = one_stays_mounted state shape c.self.inside.dies.items c.args.place.die c.index_mut-die.result.now c.sense_page.new.die
           c.self.invariant.mounted within c.index_mut-die.ensures.value
@@ -36,8 +36,12 @@ returns-clause-ok g c =
     let state = g.D.Die.state in
     let shape_is : c.self.inside.shape ≡ c.args.self.now.shape = ap {B = Shape} (λ (dies : DiesState). dies.shape) c.self.view_is in
     let within : c.args.place.die < length c.self.inside.dies.items =
-        omega (arith, length-map c.self.inside.dies.items state, c.self.invariant.mounted.count_is,
-        subst (λ (shape : Shape). c.args.place.die < shape.dies) (sym shape_is) c.requires.place.die) in
+    omega (
+      arith,
+      length-map c.self.inside.dies.items state,
+      c.self.invariant.mounted.count_is,
+      subst (λ (shape : Shape). c.args.place.die < shape.dies) (sym shape_is) c.requires.place.die,
+    ) in
     IfOk-weaker c.sense_page.result _ _
     (λ x keeps. seen_change c.self.inside.shape c.self.inside.sum (map state c.self.inside.dies.items)
     (map state (set c.self.inside.dies.items c.args.place.die c.sense_page.new.die)) c.args.self.now c.args.place.die KeepsDie c.self.view_is
@@ -50,8 +54,12 @@ returns-clause-err g c =
     let state = g.D.Die.state in
     let shape_is : c.self.inside.shape ≡ c.args.self.now.shape = ap {B = Shape} (λ (dies : DiesState). dies.shape) c.self.view_is in
     let within : c.args.place.die < length c.self.inside.dies.items =
-        omega (arith, length-map c.self.inside.dies.items state, c.self.invariant.mounted.count_is,
-        subst (λ (shape : Shape). c.args.place.die < shape.dies) (sym shape_is) c.requires.place.die) in
+    omega (
+      arith,
+      length-map c.self.inside.dies.items state,
+      c.self.invariant.mounted.count_is,
+      subst (λ (shape : Shape). c.args.place.die < shape.dies) (sym shape_is) c.requires.place.die,
+    ) in
     IfErr-weaker c.sense_page.result _ _
     (λ e faults. seen_change c.self.inside.shape c.self.inside.sum (map state c.self.inside.dies.items)
     (map state (set c.self.inside.dies.items c.args.place.die c.sense_page.new.die)) c.args.self.now c.args.place.die FaultsDie c.self.view_is
