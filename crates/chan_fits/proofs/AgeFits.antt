@@ -115,8 +115,7 @@ age_fits start contents past tag die sb amount sum old new low within due change
           (record {
             plan_stays = changes.changed.plan_stays;
             works_stay = changes.changed.works_stay;
-            loads_stay =
-                changes.changed.loads_stay;
+            loads_stay = changes.changed.loads_stay;
           })
       | inr far ↦ same_counted (die_at old other) (die_at new other) (changes.others other far)
     ])

@@ -212,8 +212,7 @@ due_picked shape blocks dies sb count good due =
     (位 die lt. record { as_many = refl; elsewhere = 位 other differ. refl })
     (位 sound die lt within. record {
       pages = due.pages_due die sb lt within good;
-      erases =
-          due.erases_due die sb lt within good;
+      erases = due.erases_due die sb lt within good;
     })
     due
 
@@ -235,8 +234,7 @@ aged_counts : (plan : Option DiePlan) (blocks : List BlockCells) (sb amount : 鈩
 aged_counts None blocks sb amount lt = same_counts blocks blocks refl
 aged_counts (Some plan) blocks sb amount lt = record {
   as_many = length-set blocks sb (record {
-    pages =
-        map (map (aged_level plan.law.erased amount)) (cells_at blocks sb).pages;
+    pages = map (map (aged_level plan.law.erased amount)) (cells_at blocks sb).pages;
     erases = (cells_at blocks sb).erases;
   });
   pages = 位 other. as_many_aged plan.law.erased blocks sb amount other lt;

@@ -73,8 +73,7 @@ put_other place word old new other puts lt is here differ =
         (put_elsewhere (blocks_told old place.die) place.sb other.sb
         (record {
           pages = (cells_at (blocks_told old place.die) place.sb).pages ++ levels ∷ [];
-          erases =
-              (cells_at (blocks_told old place.die) place.sb).erases;
+          erases = (cells_at (blocks_told old place.die) place.sb).erases;
         }) apart_blocks)
 
 -- the levels that a program of a word leaves are those of the past's fresh page

@@ -52,8 +52,7 @@ pub kept_counted : (old new : DieState) → KeepsDie old new → StaysCounted ol
 kept_counted old new keeps = record {
   plan_stays = keeps.plan_stays;
   works_stay = keeps.works_stay;
-  loads_stay =
-      keeps.loads_stay;
+  loads_stay = keeps.loads_stay;
 }
 
 pub same_counted : (old new : DieState) → new ≡ old → StaysCounted old new

@@ -69,8 +69,7 @@ erases_stay blocks sb other levels lt = elim (cases_eq other sb) [
       ap {B = ℕ} (λ (cells : BlockCells). cells.erases)
       (put_elsewhere blocks sb other (record {
         pages = (cells_at blocks sb).pages ++ levels ∷ [];
-        erases =
-            (cells_at blocks sb).erases;
+        erases = (cells_at blocks sb).erases;
       }) differ)
 ]
 
@@ -94,8 +93,7 @@ aged_here erased blocks sb amount page lt =
     ap {B = Option (List ℤ)} (λ (cells : BlockCells). slice_get cells.pages page)
     (put_here blocks sb (record {
       pages = map (map (aged_level erased amount)) (cells_at blocks sb).pages;
-      erases =
-          (cells_at blocks sb).erases;
+      erases = (cells_at blocks sb).erases;
     }) lt)
     ∙ slice_get-map (map (aged_level erased amount)) (cells_at blocks sb).pages page
 
@@ -104,8 +102,7 @@ pub aged_elsewhere : (erased : ℤ) (blocks : List BlockCells) (sb amount other 
 aged_elsewhere erased blocks sb amount other differ =
     put_elsewhere blocks sb other (record {
       pages = map (map (aged_level erased amount)) (cells_at blocks sb).pages;
-      erases =
-          (cells_at blocks sb).erases;
+      erases = (cells_at blocks sb).erases;
     }) differ
 
 -- ageing leaves as many pages, erased as often
@@ -117,8 +114,7 @@ as_many_aged erased blocks sb amount other lt = elim (cases_eq other sb) [
       ∙ ap {B = ℕ} (λ (cells : BlockCells). length cells.pages)
       (put_here blocks sb (record {
         pages = map (map (aged_level erased amount)) (cells_at blocks sb).pages;
-        erases =
-            (cells_at blocks sb).erases;
+        erases = (cells_at blocks sb).erases;
       }) lt)
       ∙ length-map (cells_at blocks sb).pages (map (aged_level erased amount))
       ∙ ap {B = ℕ} (λ (n : ℕ). programmed_in blocks n) (sym same)
@@ -133,8 +129,7 @@ erased_as_often erased blocks sb amount other lt = elim (cases_eq other sb) [
       ∙ ap {B = ℕ} (λ (cells : BlockCells). cells.erases)
       (put_here blocks sb (record {
         pages = map (map (aged_level erased amount)) (cells_at blocks sb).pages;
-        erases =
-            (cells_at blocks sb).erases;
+        erases = (cells_at blocks sb).erases;
       }) lt)
       ∙ ap {B = ℕ} (λ (n : ℕ). (cells_at blocks n).erases) (sym same)
   | inr differ ↦ ap {B = ℕ} (λ (cells : BlockCells). cells.erases) (aged_elsewhere erased blocks sb amount other differ)

@@ -1,5 +1,6 @@
 //! Laws of the dies of a channel. Each is the contract of a function that does nothing.
-ghost use Rattle.chan_fits.specs.FitLaws.{DiesFitAfterEntry, DiesFitTheirStart, DueAfterEntry, DueTablesAllowSteps, SensesAreThePasts, WeakBlocksAreThePasts};
+ghost use Rattle.chan_fits.specs.FitLaws.{DiesFitAfterEntry, DiesFitTheirStart, DueAfterEntry, DueTablesAllowSteps};
+ghost use Rattle.chan_fits.specs.FitLaws.{SensesAreThePasts, WeakBlocksAreThePasts};
 
 /// The dies of a start hold what it says.
 pub fn dies_fit_their_start()
