@@ -1,35 +1,63 @@
 use super::*;
-use calls::{
-    FAILED_CALL, WORD, ages, copies_levels, erase_after, level_told, loads_block, loads_page,
-    mounted, plan_of, program, programmed, sense, status_of, status_told,
-};
-use onfi_cmd::{Die, DieStop, Op};
+use calls::{FAILED_CALL, plan_of, programmed};
+use onfi_cmd::{Die, DieStop};
 use std::test::Fail;
+use steps::{Bits, Step, first_other};
 
 mod calls;
+mod steps;
 
-// The levels and senses were worked out by hand from the rules.
+// A test's steps are calls after a mount. The levels and senses were worked out by hand from the rules.
+const PASSED: u8 = 0xe0;
+
+const FAILED: u8 = 0xe1;
+
 #[test]
 fn a_blank_page_reads_as_erased(rt: HostRuntime) -> Result<(), Fail> {
     let plan = plan_of(rt.alloc())?;
-    let mut cycles = Vec::new(rt.alloc());
-    let mut die = SimDie::new();
-    mounted(&mut die, rt.alloc(), &plan)?;
-    assert_eq!(rt; sense(&mut die, &plan, 1, -99, &mut cycles)?, [0xff; 48]);
-    assert_eq!(rt; sense(&mut die, &plan, 1, -100, &mut cycles)?, [0; 48]);
+    let steps = [
+        Step::Sense {
+            sb: 1,
+            level: -99,
+            bits: Bits::Ones,
+        },
+        Step::Sense {
+            sb: 1,
+            level: -100,
+            bits: Bits::Zeros,
+        },
+    ];
+    assert_eq!(rt;
+        first_other(&mut SimDie::new(), rt.alloc(), &plan, &steps)?,
+        None
+    );
     Ok(())
 }
 
 #[test]
 fn a_programmed_page_reads_as_its_word(rt: HostRuntime) -> Result<(), Fail> {
     let plan = plan_of(rt.alloc())?;
-    let mut cycles = Vec::new(rt.alloc());
-    let mut die = SimDie::new();
-    mounted(&mut die, rt.alloc(), &plan)?;
-    assert_eq!(rt; program(&mut die, &plan, 1, &mut cycles)?, 0xe0);
-    assert_eq!(rt; programmed(&die, &plan, 1)?, 1);
-    assert_eq!(rt; sense(&mut die, &plan, 1, 0, &mut cycles)?, WORD);
-    assert_eq!(rt; sense(&mut die, &plan, 1, 101, &mut cycles)?, [0xff; 48]);
+    let steps = [
+        Step::Program {
+            sb: 1,
+            status: PASSED,
+        },
+        Step::Programmed { sb: 1, pages: 1 },
+        Step::Sense {
+            sb: 1,
+            level: 0,
+            bits: Bits::Programmed,
+        },
+        Step::Sense {
+            sb: 1,
+            level: 101,
+            bits: Bits::Ones,
+        },
+    ];
+    assert_eq!(rt;
+        first_other(&mut SimDie::new(), rt.alloc(), &plan, &steps)?,
+        None
+    );
     Ok(())
 }
 
@@ -37,32 +65,56 @@ fn a_programmed_page_reads_as_its_word(rt: HostRuntime) -> Result<(), Fail> {
 #[test]
 fn an_aged_page_wants_a_lower_level(rt: HostRuntime) -> Result<(), Fail> {
     let plan = plan_of(rt.alloc())?;
-    let mut cycles = Vec::new(rt.alloc());
-    let mut die = SimDie::new();
-    mounted(&mut die, rt.alloc(), &plan)?;
-    assert_eq!(rt; program(&mut die, &plan, 1, &mut cycles)?, 0xe0);
-    assert_eq!(rt; ages(&mut die, &plan, 1, 150)?, true);
-    assert_eq!(rt; sense(&mut die, &plan, 1, 0, &mut cycles)?, [0xff; 48]);
-    assert_eq!(rt; sense(&mut die, &plan, 1, -60, &mut cycles)?, WORD);
+    let steps = [
+        Step::Program {
+            sb: 1,
+            status: PASSED,
+        },
+        Step::Age { sb: 1, amount: 150 },
+        Step::Sense {
+            sb: 1,
+            level: 0,
+            bits: Bits::Ones,
+        },
+        Step::Sense {
+            sb: 1,
+            level: -60,
+            bits: Bits::Programmed,
+        },
+    ];
+    assert_eq!(rt;
+        first_other(&mut SimDie::new(), rt.alloc(), &plan, &steps)?,
+        None
+    );
     Ok(())
 }
 
-// Cell 9 is bit 1 of byte 1.
 #[test]
 fn a_loaded_page_has_its_levels(rt: HostRuntime) -> Result<(), Fail> {
     let plan = plan_of(rt.alloc())?;
-    let mut cycles = Vec::new(rt.alloc());
-    let mut die = SimDie::new();
-    mounted(&mut die, rt.alloc(), &plan)?;
-    let mut levels = [-100; 384];
-    levels[9] = 42;
-    assert_eq!(rt; loads_page(&mut die, &plan, 3, &levels)?, true);
-    let mut out = [0; 384];
-    assert_eq!(rt; copies_levels(&mut die, &plan, 3, &mut out)?, true);
-    assert_eq!(rt; out, levels);
-    let mut word = [0xff; 48];
-    word[1] = 0xfd;
-    assert_eq!(rt; sense(&mut die, &plan, 3, 42, &mut cycles)?, word);
+    let steps = [
+        Step::LoadPage {
+            sb: 3,
+            level: -100,
+            ninth: 42,
+            passes: true,
+        },
+        Step::CopyLevels {
+            sb: 3,
+            level: -100,
+            ninth: 42,
+            passes: true,
+        },
+        Step::Sense {
+            sb: 3,
+            level: 42,
+            bits: Bits::OnesButNinth,
+        },
+    ];
+    assert_eq!(rt;
+        first_other(&mut SimDie::new(), rt.alloc(), &plan, &steps)?,
+        None
+    );
     Ok(())
 }
 
@@ -70,19 +122,47 @@ fn a_loaded_page_has_its_levels(rt: HostRuntime) -> Result<(), Fail> {
 #[test]
 fn a_die_tells_its_last_status(rt: HostRuntime) -> Result<(), Fail> {
     let plan = plan_of(rt.alloc())?;
-    let mut cycles = Vec::new(rt.alloc());
-    let mut die = SimDie::new();
-    mounted(&mut die, rt.alloc(), &plan)?;
-    assert_eq!(rt; status_told(&mut die, &plan, &mut cycles)?, (0xe0, 0xe0));
-    assert_eq!(rt; erase_after(&mut die, &plan, 2, 5, &mut cycles)?, 0xe1);
-    assert_eq!(rt; status_told(&mut die, &plan, &mut cycles)?, (0xe1, 0xe1));
-    assert_eq!(rt; ages(&mut die, &plan, 2, 1)?, true);
-    assert_eq!(rt; status_told(&mut die, &plan, &mut cycles)?, (0xe1, 0xe1));
-    assert_eq!(rt; program(&mut die, &plan, 1, &mut cycles)?, 0xe0);
-    assert_eq!(rt; status_told(&mut die, &plan, &mut cycles)?, (0xe0, 0xe0));
-    assert_eq!(rt; program(&mut die, &plan, 2, &mut cycles)?, 0xe1);
-    mounted(&mut die, rt.alloc(), &plan)?;
-    assert_eq!(rt; status_told(&mut die, &plan, &mut cycles)?, (0xe0, 0xe0));
+    let steps = [
+        Step::Status {
+            answer: PASSED,
+            byte: PASSED,
+        },
+        Step::EraseAfter {
+            sb: 2,
+            erases: 5,
+            status: FAILED,
+        },
+        Step::Status {
+            answer: FAILED,
+            byte: FAILED,
+        },
+        Step::Age { sb: 2, amount: 1 },
+        Step::Status {
+            answer: FAILED,
+            byte: FAILED,
+        },
+        Step::Program {
+            sb: 1,
+            status: PASSED,
+        },
+        Step::Status {
+            answer: PASSED,
+            byte: PASSED,
+        },
+        Step::Program {
+            sb: 2,
+            status: FAILED,
+        },
+        Step::Mount,
+        Step::Status {
+            answer: PASSED,
+            byte: PASSED,
+        },
+    ];
+    assert_eq!(rt;
+        first_other(&mut SimDie::new(), rt.alloc(), &plan, &steps)?,
+        None
+    );
     Ok(())
 }
 
@@ -90,19 +170,22 @@ fn a_die_tells_its_last_status(rt: HostRuntime) -> Result<(), Fail> {
 #[test]
 fn a_reset_sets_the_read_level_back(rt: HostRuntime) -> Result<(), Fail> {
     let plan = plan_of(rt.alloc())?;
-    let mut cycles = Vec::new(rt.alloc());
-    let mut die = SimDie::new();
-    mounted(&mut die, rt.alloc(), &plan)?;
-    assert_eq!(rt; sense(&mut die, &plan, 1, -60, &mut cycles)?, [0xff; 48]);
+    let steps = [
+        Step::Sense {
+            sb: 1,
+            level: -60,
+            bits: Bits::Ones,
+        },
+        Step::ReadLevel {
+            params: [0xc4, 0xff, 0, 0],
+        },
+        Step::Reset,
+        Step::ReadLevel { params: [0; 4] },
+    ];
     assert_eq!(rt;
-        level_told(&mut die, &plan, &mut cycles)?,
-        [0xc4, 0xff, 0, 0]
+        first_other(&mut SimDie::new(), rt.alloc(), &plan, &steps)?,
+        None
     );
-    assert_eq!(rt;
-        status_of(&mut die, Op::Reset, &[], &mut [], &mut cycles)?,
-        0xe0
-    );
-    assert_eq!(rt; level_told(&mut die, &plan, &mut cycles)?, [0; 4]);
     Ok(())
 }
 
@@ -110,28 +193,62 @@ fn a_reset_sets_the_read_level_back(rt: HostRuntime) -> Result<(), Fail> {
 #[test]
 fn an_erase_takes_the_pages_and_is_counted(rt: HostRuntime) -> Result<(), Fail> {
     let plan = plan_of(rt.alloc())?;
-    let mut cycles = Vec::new(rt.alloc());
-    let mut die = SimDie::new();
-    mounted(&mut die, rt.alloc(), &plan)?;
-    assert_eq!(rt; program(&mut die, &plan, 2, &mut cycles)?, 0xe0);
-    assert_eq!(rt; erase_after(&mut die, &plan, 2, 4, &mut cycles)?, 0xe0);
-    assert_eq!(rt; programmed(&die, &plan, 2)?, 0);
-    assert_eq!(rt; sense(&mut die, &plan, 2, -99, &mut cycles)?, [0xff; 48]);
-    assert_eq!(rt; program(&mut die, &plan, 2, &mut cycles)?, 0xe1);
+    let steps = [
+        Step::Program {
+            sb: 2,
+            status: PASSED,
+        },
+        Step::EraseAfter {
+            sb: 2,
+            erases: 4,
+            status: PASSED,
+        },
+        Step::Programmed { sb: 2, pages: 0 },
+        Step::Sense {
+            sb: 2,
+            level: -99,
+            bits: Bits::Ones,
+        },
+        Step::Program {
+            sb: 2,
+            status: FAILED,
+        },
+    ];
+    assert_eq!(rt;
+        first_other(&mut SimDie::new(), rt.alloc(), &plan, &steps)?,
+        None
+    );
     Ok(())
 }
 
 #[test]
 fn a_weak_block_stays_as_it_is(rt: HostRuntime) -> Result<(), Fail> {
     let plan = plan_of(rt.alloc())?;
-    let mut cycles = Vec::new(rt.alloc());
-    let mut die = SimDie::new();
-    mounted(&mut die, rt.alloc(), &plan)?;
-    assert_eq!(rt; program(&mut die, &plan, 2, &mut cycles)?, 0xe0);
-    assert_eq!(rt; erase_after(&mut die, &plan, 2, 5, &mut cycles)?, 0xe1);
-    assert_eq!(rt; program(&mut die, &plan, 2, &mut cycles)?, 0xe1);
-    assert_eq!(rt; programmed(&die, &plan, 2)?, 1);
-    assert_eq!(rt; sense(&mut die, &plan, 2, 0, &mut cycles)?, WORD);
+    let steps = [
+        Step::Program {
+            sb: 2,
+            status: PASSED,
+        },
+        Step::EraseAfter {
+            sb: 2,
+            erases: 5,
+            status: FAILED,
+        },
+        Step::Program {
+            sb: 2,
+            status: FAILED,
+        },
+        Step::Programmed { sb: 2, pages: 1 },
+        Step::Sense {
+            sb: 2,
+            level: 0,
+            bits: Bits::Programmed,
+        },
+    ];
+    assert_eq!(rt;
+        first_other(&mut SimDie::new(), rt.alloc(), &plan, &steps)?,
+        None
+    );
     Ok(())
 }
 
@@ -139,14 +256,24 @@ fn a_weak_block_stays_as_it_is(rt: HostRuntime) -> Result<(), Fail> {
 #[test]
 fn a_listed_run_fails(rt: HostRuntime) -> Result<(), Fail> {
     let plan = plan_of(rt.alloc())?;
-    let mut cycles = Vec::new(rt.alloc());
     let runs = vec![in rt.alloc(); 2]?;
     let mut die = ListedFaults::new(SimDie::new(), runs, Vec::new(rt.alloc()));
-    mounted(&mut die, rt.alloc(), &plan)?;
-    assert_eq!(rt; program(&mut die, &plan, 1, &mut cycles)?, 0xe0);
-    assert_eq!(rt; program(&mut die, &plan, 1, &mut cycles)?, FAILED_CALL);
-    assert_eq!(rt; programmed(&die, &plan, 1)?, 1);
-    assert_eq!(rt; program(&mut die, &plan, 1, &mut cycles)?, 0xe0);
+    let steps = [
+        Step::Program {
+            sb: 1,
+            status: PASSED,
+        },
+        Step::Program {
+            sb: 1,
+            status: FAILED_CALL,
+        },
+        Step::Programmed { sb: 1, pages: 1 },
+        Step::Program {
+            sb: 1,
+            status: PASSED,
+        },
+    ];
+    assert_eq!(rt; first_other(&mut die, rt.alloc(), &plan, &steps)?, None);
     assert_eq!(rt; programmed(die.inner(), &plan, 1)?, 2);
     Ok(())
 }
@@ -154,15 +281,19 @@ fn a_listed_run_fails(rt: HostRuntime) -> Result<(), Fail> {
 #[test]
 fn a_failed_run_leaves_what_it_was_to_fill(rt: HostRuntime) -> Result<(), Fail> {
     let plan = plan_of(rt.alloc())?;
-    let mut cycles = Vec::new(rt.alloc());
     let runs = vec![in rt.alloc(); 1]?;
     let mut die = ListedFaults::new(SimDie::new(), runs, Vec::new(rt.alloc()));
-    mounted(&mut die, rt.alloc(), &plan)?;
-    assert_eq!(rt;
-        status_told(&mut die, &plan, &mut cycles)?,
-        (FAILED_CALL, 7)
-    );
-    assert_eq!(rt; status_told(&mut die, &plan, &mut cycles)?, (0xe0, 0xe0));
+    let steps = [
+        Step::Status {
+            answer: FAILED_CALL,
+            byte: 7,
+        },
+        Step::Status {
+            answer: PASSED,
+            byte: PASSED,
+        },
+    ];
+    assert_eq!(rt; first_other(&mut die, rt.alloc(), &plan, &steps)?, None);
     Ok(())
 }
 
@@ -172,9 +303,17 @@ fn a_listed_mount_and_a_listed_load_of_a_block_fail(rt: HostRuntime) -> Result<(
     let loads = vec![in rt.alloc(); 1, 3]?;
     let mut die = ListedFaults::new(SimDie::new(), Vec::new(rt.alloc()), loads);
     assert_eq!(rt; die.mount(rt.alloc(), &plan), Err(DieStop::Failed));
-    mounted(&mut die, rt.alloc(), &plan)?;
-    assert_eq!(rt; loads_block(&mut die, &plan, 0)?, false);
-    assert_eq!(rt; loads_block(&mut die, &plan, 0)?, true);
+    let steps = [
+        Step::LoadBlock {
+            sb: 0,
+            passes: false,
+        },
+        Step::LoadBlock {
+            sb: 0,
+            passes: true,
+        },
+    ];
+    assert_eq!(rt; first_other(&mut die, rt.alloc(), &plan, &steps)?, None);
     Ok(())
 }
 
@@ -182,20 +321,40 @@ fn a_listed_mount_and_a_listed_load_of_a_block_fail(rt: HostRuntime) -> Result<(
 #[test]
 fn a_listed_load_of_a_page_and_a_listed_copy_fail(rt: HostRuntime) -> Result<(), Fail> {
     let plan = plan_of(rt.alloc())?;
-    let mut cycles = Vec::new(rt.alloc());
     let loads = vec![in rt.alloc(); 2, 4]?;
     let mut die = ListedFaults::new(SimDie::new(), Vec::new(rt.alloc()), loads);
-    mounted(&mut die, rt.alloc(), &plan)?;
-    assert_eq!(rt; program(&mut die, &plan, 1, &mut cycles)?, 0xe0);
-    let levels = [42; 384];
-    assert_eq!(rt; loads_page(&mut die, &plan, 3, &levels)?, false);
-    assert_eq!(rt; programmed(&die, &plan, 3)?, 0);
-    assert_eq!(rt; loads_page(&mut die, &plan, 3, &levels)?, true);
-    assert_eq!(rt; ages(&mut die, &plan, 3, 2)?, true);
-    let mut out = [9; 384];
-    assert_eq!(rt; copies_levels(&mut die, &plan, 3, &mut out)?, false);
-    assert_eq!(rt; out, [9; 384]);
-    assert_eq!(rt; copies_levels(&mut die, &plan, 3, &mut out)?, true);
-    assert_eq!(rt; out, [40; 384]);
+    let steps = [
+        Step::Program {
+            sb: 1,
+            status: PASSED,
+        },
+        Step::LoadPage {
+            sb: 3,
+            level: 42,
+            ninth: 42,
+            passes: false,
+        },
+        Step::Programmed { sb: 3, pages: 0 },
+        Step::LoadPage {
+            sb: 3,
+            level: 42,
+            ninth: 42,
+            passes: true,
+        },
+        Step::Age { sb: 3, amount: 2 },
+        Step::CopyLevels {
+            sb: 3,
+            level: 9,
+            ninth: 9,
+            passes: false,
+        },
+        Step::CopyLevels {
+            sb: 3,
+            level: 40,
+            ninth: 40,
+            passes: true,
+        },
+    ];
+    assert_eq!(rt; first_other(&mut die, rt.alloc(), &plan, &steps)?, None);
     Ok(())
 }

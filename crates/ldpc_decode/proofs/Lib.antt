@@ -1,3 +1,4 @@
 pub mod Found
 pub mod LayerSteps
 pub mod Packing
+pub mod Words

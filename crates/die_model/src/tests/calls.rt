@@ -60,7 +60,7 @@ pub(crate) fn mounted<D: Die>(die: &mut D, alloc: Global, plan: &DiePlan) -> Res
 }
 
 // Runs one operation.
-pub(crate) fn status_of<D: Die>(
+fn status_of<D: Die>(
     die: &mut D,
     op: Op,
     bytes: &[u8],
@@ -250,4 +250,16 @@ pub(crate) fn status_told<D: Die>(
     let mut out = [7];
     let status = status_of(die, Op::Status, &[], &mut out, cycles)?;
     Ok((status, out[0]))
+}
+
+pub(crate) fn reset<D: Die>(
+    die: &mut D,
+    plan: &DiePlan,
+    cycles: &mut Vec<Cycle>,
+) -> Result<u8, Fail>
+    requires { (D.state die.old).plan ≡ Some plan.now }
+    ensures { (D.state die.new).plan ≡ Some plan.now }
+{
+    let _ = plan;
+    status_of(die, Op::Reset, &[], &mut [], cycles)
 }

@@ -1,4 +1,4 @@
-use Rattle.std.proofs.Common.{◌≡◌, ◌≤◌, length, sym, ap, ◌∙◌, arith}
+use Rattle.std.proofs.Common.{length, ap, arith}
 use Rattle.lane_layer.specs.WorkSize.{WorkSize}
 use Rattle.ssd_geo.specs.BaseMatrix.{layer_of}
 use Rattle.ssd_geo.specs.LayerNumbers.{AreNumbersOf}
