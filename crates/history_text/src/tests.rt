@@ -97,11 +97,28 @@ fn one_page_replies(alloc: Global) -> Result<Vec<Items<Reply>>, Fail>
     Ok(vec![in alloc; Items::new(vec![in alloc; Reply::Ok, Reply::Data { rung: 0, bytes }]?)]?)
 }
 
-const ONE_PAGE: &[u8] =
-    b"channel 0 4\n0 0.0 write 5 0.0\n1 0.1 look 5 page 0.0 0 open\n2 0.1 sense 1 1.0.0 0\n3 0.1 leave 1\nactor 0 2\n0 ok\n1 data 0 0102000000000000\n";
+fn one_page_history() -> &'static [u8] {
+    b"channel 0 4\n0 0.0 write 5 0.0\n1 0.1 look 5 page 0.0 0 open\n2 0.1 sense 1 1.0.0 0\n3 0.1 leave 1\n"
+}
 
-const ONE_PAGE_SUMMARY: &[u8] =
-    b"summary\nwrite 1 0 0 0\nread 1 0 0 0\ntrim 0\nmove 0 condemn 0 changed 0 stay 0\npick 0 erase 0 bad 0 fault 0\nsense 1\nrung 1 0 0 0\nhint 0 0 0\nend\n";
+fn one_page_answers() -> &'static [u8] {
+    b"actor 0 2\n0 ok\n1 data 0 0102000000000000\n"
+}
+
+fn one_page_summary() -> &'static [u8] {
+    b"summary\nwrite 1 0 0 0\nread 1 0 0 0\ntrim 0\nmove 0 condemn 0 changed 0 stay 0\npick 0 erase 0 bad 0 fault 0\nsense 1\nrung 1 0 0 0\nhint 0 0 0\nend\n"
+}
+
+// What is printed, whole or from the summary on.
+fn one_page_text(alloc: Global, whole: bool) -> Result<Vec<u8>, Fail> {
+    let mut text = Vec::new(alloc);
+    if whole {
+        text.extend_from_slice(one_page_history())?;
+        text.extend_from_slice(one_page_answers())?;
+    }
+    text.extend_from_slice(one_page_summary())?;
+    Ok(text)
+}
 
 #[test]
 fn one_page_is_printed_whole_and_from_the_summary_on(rt: HostRuntime) -> Result<(), Fail> {
@@ -120,10 +137,8 @@ fn one_page_is_printed_whole_and_from_the_summary_on(rt: HostRuntime) -> Result<
             &mut sink, &head, &histories, &kinds, &replies, 0, whole, &mut line,
         );
         assert_eq!(rt; printed, Ok(()));
-        let lists = if whole { ONE_PAGE.len() } else { 0 };
-        assert_eq!(rt; sink.bytes().len(), lists + ONE_PAGE_SUMMARY.len());
-        assert_eq!(rt; &sink.bytes()[..lists], &ONE_PAGE[..lists]);
-        assert_eq!(rt; &sink.bytes()[lists..], ONE_PAGE_SUMMARY);
+        let text = one_page_text(alloc, whole)?;
+        assert_eq!(rt; sink.bytes(), text.as_slice());
     }
     Ok(())
 }
@@ -136,111 +151,117 @@ const PAGE: Row = Row::Page {
 const BAD: Slot = Slot { sb: 3, index: 1 };
 
 // One entry of each kind, or two where its text has two forms.
-const CALLS: &[Kind] = &[
-    Kind::Look {
-        row: 4,
-        found: PAGE,
-        closed: true,
-    },
-    Kind::Look {
-        row: 4,
-        found: PAGE,
-        closed: false,
-    },
-    Kind::Look {
-        row: 4,
-        found: Row::Empty,
-        closed: false,
-    },
-    Kind::Look {
-        row: 4,
-        found: Row::Lost,
-        closed: false,
-    },
-    Kind::Sense {
-        at: 3,
-        place: PLACE,
-        level: -60,
-    },
-    Kind::Leave { at: 3 },
-    Kind::Write { row: 0, slot: SLOT },
-    Kind::Trim { row: 12 },
-    Kind::Refused { row: 0, worn: true },
-    Kind::Refused {
-        row: 0,
-        worn: false,
-    },
-];
+fn calls() -> [Kind; 10] {
+    [
+        Kind::Look {
+            row: 4,
+            found: PAGE,
+            closed: true,
+        },
+        Kind::Look {
+            row: 4,
+            found: PAGE,
+            closed: false,
+        },
+        Kind::Look {
+            row: 4,
+            found: Row::Empty,
+            closed: false,
+        },
+        Kind::Look {
+            row: 4,
+            found: Row::Lost,
+            closed: false,
+        },
+        Kind::Sense {
+            at: 3,
+            place: PLACE,
+            level: -60,
+        },
+        Kind::Leave { at: 3 },
+        Kind::Write { row: 0, slot: SLOT },
+        Kind::Trim { row: 12 },
+        Kind::Refused { row: 0, worn: true },
+        Kind::Refused {
+            row: 0,
+            worn: false,
+        },
+    ]
+}
 
-const MOVES: &[Kind] = &[
-    Kind::Move { at: 13, slot: SLOT },
-    Kind::Changed { at: 4, found: PAGE },
-    Kind::Changed {
-        at: 4,
-        found: Row::Empty,
-    },
-    Kind::Changed {
-        at: 4,
-        found: Row::Lost,
-    },
-    Kind::Condemn { at: 9 },
-    Kind::Stay { at: 20, worn: true },
-    Kind::Stay {
-        at: 20,
-        worn: false,
-    },
-    Kind::FaultSense {
-        at: 1,
-        place: PLACE,
-        level: 0,
-    },
-];
+fn moves() -> [Kind; 8] {
+    [
+        Kind::Move { at: 13, slot: SLOT },
+        Kind::Changed { at: 4, found: PAGE },
+        Kind::Changed {
+            at: 4,
+            found: Row::Empty,
+        },
+        Kind::Changed {
+            at: 4,
+            found: Row::Lost,
+        },
+        Kind::Condemn { at: 9 },
+        Kind::Stay { at: 20, worn: true },
+        Kind::Stay {
+            at: 20,
+            worn: false,
+        },
+        Kind::FaultSense {
+            at: 1,
+            place: PLACE,
+            level: 0,
+        },
+    ]
+}
 
-const BLOCKS: &[Kind] = &[
-    Kind::Pick { sb: 0 },
-    Kind::Erase { sb: 255 },
-    Kind::BadWrite {
-        row: 0,
-        slot: BAD,
-        die: 0,
-        fault: false,
-    },
-    Kind::BadCopy {
-        at: 16,
-        slot: BAD,
-        die: 0,
-        fault: true,
-    },
-    Kind::BadErase {
-        sb: 1,
-        die: 2,
-        fault: false,
-    },
-    Kind::Age {
-        die: 1,
-        sb: 0,
-        amount: 150,
-    },
-    Kind::FaultAge {
-        die: 1,
-        sb: 0,
-        amount: 150,
-    },
-    Kind::Note {
-        free: 4,
-        victim: None,
-        live: 0,
-        pins: 0,
-        garbage: 0,
-    },
-    Kind::Note {
-        free: 1,
-        victim: Some(2),
-        live: 3,
-        pins: 4,
-        garbage: 5,
-    },
-];
+fn blocks() -> [Kind; 9] {
+    [
+        Kind::Pick { sb: 0 },
+        Kind::Erase { sb: 255 },
+        Kind::BadWrite {
+            row: 0,
+            slot: BAD,
+            die: 0,
+            fault: false,
+        },
+        Kind::BadCopy {
+            at: 16,
+            slot: BAD,
+            die: 0,
+            fault: true,
+        },
+        Kind::BadErase {
+            sb: 1,
+            die: 2,
+            fault: false,
+        },
+        Kind::Age {
+            die: 1,
+            sb: 0,
+            amount: 150,
+        },
+        Kind::FaultAge {
+            die: 1,
+            sb: 0,
+            amount: 150,
+        },
+        Kind::Note {
+            free: 4,
+            victim: None,
+            live: 0,
+            pins: 0,
+            garbage: 0,
+        },
+        Kind::Note {
+            free: 1,
+            victim: Some(2),
+            live: 3,
+            pins: 4,
+            garbage: 5,
+        },
+    ]
+}
 
 fn listed(alloc: Global, kinds: &[Kind]) -> Result<Items<Entry>, Fail> {
     let mut entries = Vec::new(alloc);
@@ -252,15 +273,41 @@ fn listed(alloc: Global, kinds: &[Kind]) -> Result<Items<Entry>, Fail> {
 
 fn each_entry(alloc: Global) -> Result<Vec<Items<Entry>>, Fail> {
     let (calls, moves, blocks) = (
-        listed(alloc, CALLS)?,
-        listed(alloc, MOVES)?,
-        listed(alloc, BLOCKS)?,
+        listed(alloc, &calls())?,
+        listed(alloc, &moves())?,
+        listed(alloc, &blocks())?,
     );
     Ok(vec![in alloc; calls, moves, blocks]?)
 }
 
-const EACH_ENTRY: &[u8] =
-    b"channel 0 10\n0 0.7 look 4 page 2.11 1099511627776 closed\n1 0.7 look 4 page 2.11 1099511627776 open\n2 0.7 look 4 empty\n3 0.7 look 4 lost\n4 0.7 sense 3 1.2.10 -60\n5 0.7 leave 3\n6 0.7 write 0 2.11\n7 0.7 trim 12\n8 0.7 refused 0 readonly\n9 0.7 refused 0 full\nchannel 1 8\n0 0.7 move 13 2.11\n1 0.7 changed 4 page 2.11 1099511627776\n2 0.7 changed 4 empty\n3 0.7 changed 4 lost\n4 0.7 condemn 9\n5 0.7 stay 20 readonly\n6 0.7 stay 20 noroom\n7 0.7 fault sense 1 1.2.10 0\nchannel 2 9\n0 0.7 pick 0\n1 0.7 erase 255\n2 0.7 bad write 0 3.1 0 fail\n3 0.7 bad copy 16 3.1 0 fault\n4 0.7 bad erase 1 2 fail\n5 0.7 age 1.0 150\n6 0.7 fault age 1.0 150\n7 0.7 note 4 - 0 0 0\n8 0.7 note 1 2 3 4 5\nsummary\nwrite 0 0 0 0\nread 0 0 0 0\ntrim 0\nmove 1 condemn 1 changed 3 stay 2\npick 1 erase 1 bad 3 fault 2\nsense 1\nrung 0 0 0 0\nhint 0 0 0\nend\n";
+fn calls_text() -> &'static [u8] {
+    b"channel 0 10\n0 0.7 look 4 page 2.11 1099511627776 closed\n1 0.7 look 4 page 2.11 1099511627776 open\n2 0.7 look 4 empty\n3 0.7 look 4 lost\n4 0.7 sense 3 1.2.10 -60\n5 0.7 leave 3\n6 0.7 write 0 2.11\n7 0.7 trim 12\n8 0.7 refused 0 readonly\n9 0.7 refused 0 full\n"
+}
+
+fn moves_text() -> &'static [u8] {
+    b"channel 1 8\n0 0.7 move 13 2.11\n1 0.7 changed 4 page 2.11 1099511627776\n2 0.7 changed 4 empty\n3 0.7 changed 4 lost\n4 0.7 condemn 9\n5 0.7 stay 20 readonly\n6 0.7 stay 20 noroom\n7 0.7 fault sense 1 1.2.10 0\n"
+}
+
+fn blocks_text() -> &'static [u8] {
+    b"channel 2 9\n0 0.7 pick 0\n1 0.7 erase 255\n2 0.7 bad write 0 3.1 0 fail\n3 0.7 bad copy 16 3.1 0 fault\n4 0.7 bad erase 1 2 fail\n5 0.7 age 1.0 150\n6 0.7 fault age 1.0 150\n7 0.7 note 4 - 0 0 0\n8 0.7 note 1 2 3 4 5\n"
+}
+
+fn each_entry_summary() -> &'static [u8] {
+    b"summary\nwrite 0 0 0 0\nread 0 0 0 0\ntrim 0\nmove 1 condemn 1 changed 3 stay 2\npick 1 erase 1 bad 3 fault 2\nsense 1\nrung 0 0 0 0\nhint 0 0 0\nend\n"
+}
+
+fn each_entry_history(alloc: Global) -> Result<Vec<u8>, Fail> {
+    let mut text = calls_text().to_vec(alloc)?;
+    text.extend_from_slice(moves_text())?;
+    text.extend_from_slice(blocks_text())?;
+    Ok(text)
+}
+
+fn each_entry_text(alloc: Global) -> Result<Vec<u8>, Fail> {
+    let mut text = each_entry_history(alloc)?;
+    text.extend_from_slice(each_entry_summary())?;
+    Ok(text)
+}
 
 #[test]
 fn each_kind_of_entry_has_its_line_and_its_count(rt: HostRuntime) -> Result<(), Fail> {
@@ -270,7 +317,8 @@ fn each_kind_of_entry_has_its_line_and_its_count(rt: HostRuntime) -> Result<(), 
     let mut line = Vec::with_capacity(alloc, 528)?;
     let printed = print_run(&mut sink, &head, &histories, &[], &[], 0, true, &mut line);
     assert_eq!(rt; printed, Ok(()));
-    assert_eq!(rt; sink.bytes(), EACH_ENTRY);
+    let text = each_entry_text(alloc)?;
+    assert_eq!(rt; sink.bytes(), text.as_slice());
     Ok(())
 }
 
@@ -282,8 +330,9 @@ fn a_front_is_written_before_the_sink_fails(rt: HostRuntime) -> Result<(), Fail>
     let mut line = Vec::with_capacity(alloc, 64)?;
     let printed = print_run(&mut sink, &head, &histories, &[], &[], 0, true, &mut line);
     assert_eq!(rt; printed, Err(Failed));
-    assert!(rt; !sink.bytes().is_empty() && sink.bytes().len() < EACH_ENTRY.len());
-    assert!(rt; EACH_ENTRY.starts_with(sink.bytes()));
+    let text = each_entry_text(alloc)?;
+    assert!(rt; !sink.bytes().is_empty() && sink.bytes().len() < text.len());
+    assert!(rt; text.starts_with(sink.bytes()));
     Ok(())
 }
 
@@ -315,6 +364,10 @@ fn print_actor(
     Ok(sink)
 }
 
+fn writes_text() -> &'static [u8] {
+    b"actor 0 5\n0 ok\n1 full\n2 readonly\n3 diefault.1\n4 ok\nsummary\nwrite 1 1 1 1\nread 0 0 0 0\ntrim 1\nmove 0 condemn 0 changed 0 stay 0\npick 0 erase 0 bad 0 fault 0\nsense 0\nrung 0 0 0 0\nhint 0 0 0\nend\n"
+}
+
 #[test]
 fn replies_to_writes_and_trims_are_counted(rt: HostRuntime) -> Result<(), Fail> {
     use CallKind::{Trim, Write};
@@ -327,11 +380,13 @@ fn replies_to_writes_and_trims_are_counted(rt: HostRuntime) -> Result<(), Fail> 
         Reply::DieFault { die: 1 },
         Reply::Ok,
     ]?;
-    let text: &[u8] =
-        b"actor 0 5\n0 ok\n1 full\n2 readonly\n3 diefault.1\n4 ok\nsummary\nwrite 1 1 1 1\nread 0 0 0 0\ntrim 1\nmove 0 condemn 0 changed 0 stay 0\npick 0 erase 0 bad 0 fault 0\nsense 0\nrung 0 0 0 0\nhint 0 0 0\nend\n";
     let sink = print_actor(alloc, kinds, replies, 0)?;
-    assert_eq!(rt; sink.bytes(), text);
+    assert_eq!(rt; sink.bytes(), writes_text());
     Ok(())
+}
+
+fn reads_text() -> &'static [u8] {
+    b"actor 0 6\n0 data 0 \n1 data 1 \n2 data 3 01ab\n3 empty\n4 uncorrectable\n5 diefault.2\nsummary\nwrite 0 0 0 0\nread 3 1 1 1\ntrim 0\nmove 0 condemn 0 changed 0 stay 0\npick 0 erase 0 bad 0 fault 0\nsense 0\nrung 1 1 0 1\nhint 1 1 0\nend\n"
 }
 
 #[test]
@@ -355,11 +410,13 @@ fn replies_to_reads_are_counted_with_their_rungs(rt: HostRuntime) -> Result<(), 
         Reply::Uncorrectable,
         Reply::DieFault { die: 2 },
     ]?;
-    let text: &[u8] =
-        b"actor 0 6\n0 data 0 \n1 data 1 \n2 data 3 01ab\n3 empty\n4 uncorrectable\n5 diefault.2\nsummary\nwrite 0 0 0 0\nread 3 1 1 1\ntrim 0\nmove 0 condemn 0 changed 0 stay 0\npick 0 erase 0 bad 0 fault 0\nsense 0\nrung 1 1 0 1\nhint 1 1 0\nend\n";
     let sink = print_actor(alloc, kinds, replies, 1)?;
-    assert_eq!(rt; sink.bytes(), text);
+    assert_eq!(rt; sink.bytes(), reads_text());
     Ok(())
+}
+
+fn refreshes_text() -> &'static [u8] {
+    b"actor 0 7\n0 moved\n1 changed\n2 noroom\n3 failed\n4 collected 0\n5 retired 17\n6 idle\nsummary\nwrite 0 0 0 0\nread 0 0 0 0\ntrim 0\nmove 0 condemn 0 changed 0 stay 0\npick 0 erase 0 bad 0 fault 0\nsense 0\nrung 0 0 0 0\nhint 0 0 0\nend\n"
 }
 
 #[test]
@@ -378,11 +435,13 @@ fn replies_to_refreshes_and_collects_have_their_lines(rt: HostRuntime) -> Result
         Reply::Retired { sb: 17 },
         Reply::Idle,
     ]?;
-    let text: &[u8] =
-        b"actor 0 7\n0 moved\n1 changed\n2 noroom\n3 failed\n4 collected 0\n5 retired 17\n6 idle\nsummary\nwrite 0 0 0 0\nread 0 0 0 0\ntrim 0\nmove 0 condemn 0 changed 0 stay 0\npick 0 erase 0 bad 0 fault 0\nsense 0\nrung 0 0 0 0\nhint 0 0 0\nend\n";
     let sink = print_actor(alloc, kinds, replies, 0)?;
-    assert_eq!(rt; sink.bytes(), text);
+    assert_eq!(rt; sink.bytes(), refreshes_text());
     Ok(())
+}
+
+fn drains_text() -> &'static [u8] {
+    b"actor 0 4\n0 data 1 \n1 data 2 \n2 drained 0\n3 drained 2 0=moved 12=diefault.2\nsummary\nwrite 0 0 0 0\nread 2 0 0 0\ntrim 0\nmove 0 condemn 0 changed 0 stay 0\npick 0 erase 0 bad 0 fault 0\nsense 0\nrung 0 1 1 0\nhint 2 0 2\nend\n"
 }
 
 #[test]
@@ -408,9 +467,7 @@ fn a_drain_lists_its_pages_and_takes_hints(rt: HostRuntime) -> Result<(), Fail> 
         Reply::Drained { pages: none },
         Reply::Drained { pages },
     ]?;
-    let text: &[u8] =
-        b"actor 0 4\n0 data 1 \n1 data 2 \n2 drained 0\n3 drained 2 0=moved 12=diefault.2\nsummary\nwrite 0 0 0 0\nread 2 0 0 0\ntrim 0\nmove 0 condemn 0 changed 0 stay 0\npick 0 erase 0 bad 0 fault 0\nsense 0\nrung 0 1 1 0\nhint 2 0 2\nend\n";
     let sink = print_actor(alloc, kinds, replies, 0)?;
-    assert_eq!(rt; sink.bytes(), text);
+    assert_eq!(rt; sink.bytes(), drains_text());
     Ok(())
 }
