@@ -1,0 +1,11 @@
+pub mod CondemnedTables
+pub mod EarlierLooks
+pub mod ErasedTables
+pub mod FilledRows
+pub mod Fits
+pub mod FreeBlocks
+pub mod LiveRows
+pub mod Longer
+pub mod MovedTables
+pub mod SetAside
+pub mod UsedRows
