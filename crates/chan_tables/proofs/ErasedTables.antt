@@ -18,11 +18,11 @@ use Rattle.chan_tables.proofs.FreeBlocks.{live_row}
 use Rattle.chan_tables.proofs.Longer.{IsLonger}
 
 -- the victim is one of the superblocks
-victim_lt : (blocks : List BlockBase) (sb : ℕ) → victim_in blocks ≡ Some sb → sb < length blocks
+pub victim_lt : (blocks : List BlockBase) (sb : ℕ) → victim_in blocks ≡ Some sb → sb < length blocks
 victim_lt blocks sb e = (position-Some is_victim_block blocks sb blank_block e).0
 
 -- a row that names no slot of a superblock names a used one after its erase
-other_named : (blocks : List BlockBase) (sb : ℕ) (to : BlockBase) (row : Row) → names_superblock sb row ≡ false → NamesUsedIn blocks row → NamesUsedIn (set blocks sb to) row
+pub other_named : (blocks : List BlockBase) (sb : ℕ) (to : BlockBase) (row : Row) → names_superblock sb row ≡ false → NamesUsedIn blocks row → NamesUsedIn (set blocks sb to) row
 other_named blocks sb to Row.Empty other h = h
 other_named blocks sb to Row.Lost other h = h
 other_named blocks sb to (Row.Page slot serial) other h =
@@ -33,7 +33,7 @@ other_named blocks sb to (Row.Page slot serial) other h =
     apart : (a b : ℕ) → (a == b) ≡ false → a ≢ b
     apart a b e = grind (arith, nat_tests)
 
-not_live : (rows : List Row) (row sb : ℕ) → live_in rows sb ≡ 0 → names_superblock sb (row_at rows row) ≡ false
+pub not_live : (rows : List Row) (row sb : ℕ) → live_in rows sb ≡ 0 → names_superblock sb (row_at rows row) ≡ false
 not_live rows row sb none = by_test (names_superblock sb (row_at rows row)) (λ e. live_row rows row sb e)
   where
     by_test : (b : Bool) → (b ≡ true → 0 < live_in rows sb) → b ≡ false

@@ -57,7 +57,7 @@ fit_row shape session map blocks looks history row to fit named = record {
 }
 
 -- superblocks of which one was changed, with the same number of erases, were erased as seldom
-erases_kept : (entries : ℕ) (blocks : List BlockBase) (sb : ℕ) (to : BlockBase) → sb < length blocks → to.erases ≡ (block_at blocks sb).erases
+pub erases_kept : (entries : ℕ) (blocks : List BlockBase) (sb : ℕ) (to : BlockBase) → sb < length blocks → to.erases ≡ (block_at blocks sb).erases
     → All (HasFewErases entries) blocks → All (HasFewErases entries) (set blocks sb to)
 erases_kept entries blocks sb to lt same few =
     All-set (HasFewErases entries) blocks sb to (omega (arith, same, few sb blank_block lt)) few

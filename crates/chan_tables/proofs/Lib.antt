@@ -1,3 +1,4 @@
+pub mod ChangedBlocks
 pub mod CondemnedTables
 pub mod EarlierLooks
 pub mod ErasedTables
@@ -8,4 +9,5 @@ pub mod LiveRows
 pub mod Longer
 pub mod MovedTables
 pub mod SetAside
+pub mod SpareRoom
 pub mod UsedRows

@@ -17,7 +17,7 @@ names_set blocks (x ∷ rows) zero to named h (suc r) = h (suc r)
 names_set blocks (x ∷ rows) (suc row) to named h zero = h zero
 names_set blocks (x ∷ rows) (suc row) to named h (suc r) = names_set blocks rows row to named (λ n. h (suc n)) r
 
-used_set : (blocks : List BlockBase) (k : ℕ) (to : BlockBase) → (block_at blocks k).used ≤ to.used → (sb : ℕ)
+pub used_set : (blocks : List BlockBase) (k : ℕ) (to : BlockBase) → (block_at blocks k).used ≤ to.used → (sb : ℕ)
     → (block_at blocks sb).used ≤ (block_at (set blocks k to) sb).used
 used_set [] k to le sb = omega arith
 used_set (x ∷ blocks) zero to le zero = le
@@ -25,7 +25,7 @@ used_set (x ∷ blocks) zero to le (suc sb) = omega arith
 used_set (x ∷ blocks) (suc k) to le zero = omega arith
 used_set (x ∷ blocks) (suc k) to le (suc sb) = used_set blocks k to le sb
 
-names_more : (before after : List BlockBase) → ((sb : ℕ) → (block_at before sb).used ≤ (block_at after sb).used)
+pub names_more : (before after : List BlockBase) → ((sb : ℕ) → (block_at before sb).used ≤ (block_at after sb).used)
     → (row : Row) → NamesUsedIn before row → NamesUsedIn after row
 names_more before after le Row.Empty h = h
 names_more before after le Row.Lost h = h

@@ -40,6 +40,7 @@ impl Tables {
               blocks = with_next_used slots self.old.blocks;
             } }
     {
+        prove!(self.blocks.next_slot() == Some(slot));
         let _ = self.blocks.take_slot();
         let _ = self.rows.set(row, Row::Page { slot, serial });
     }
