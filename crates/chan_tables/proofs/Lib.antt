@@ -3,6 +3,7 @@ pub mod CondemnedTables
 pub mod EarlierLooks
 pub mod ErasedTables
 pub mod FilledRows
+pub mod FilledTables
 pub mod Fits
 pub mod FreeBlocks
 pub mod LiveRows

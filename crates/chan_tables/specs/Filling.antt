@@ -27,6 +27,13 @@ pub record HasPins (pins : List (Tag × Look)) (old new : List SbInfo) : Type 0 
   pub count : length new ≡ length old
   pub pins_are : (sb : ℕ) → sb < length old → info_at new sb ≡ record (info_at old sb) { pins = looks_in pins sb }
 
+-- what is told of a superblock with one more live page, and with one more pin
+abbrev pub with_live : SbInfo → SbInfo
+with_live info = record info { live = info.live + 1 }
+
+abbrev pub with_pin : SbInfo → SbInfo
+with_pin info = record info { pins = info.pins + 1 }
+
 -- a table after one more live page was counted in the superblocks that pass a test, and after one more pin was
 pub record HasOneLive (test : ℕ → Bool) (old new : List SbInfo) : Type 0 where
   pub count : length new ≡ length old

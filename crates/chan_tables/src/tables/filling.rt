@@ -1,9 +1,9 @@
 // The table of the superblocks, as a policy is told of them.
-ghost use Rattle.std.specs.Prelude.{◌≡◌, ◌+◌, ◌^◌, ◌<◌, ◌≤◌, ℕ, [], length};
+ghost use Rattle.std.specs.Prelude.{◌≡◌, ◌+◌, ◌^◌, ◌<◌, ◌≤◌, ℕ, [], length, slice_set};
 ghost use Rattle.ssd_histories.specs.OpenLooks.{stands_in};
 ghost use Rattle.ssd_histories.specs.PageMap.{names_superblock};
 ghost use Rattle.ssd_histories.specs.Policies.{count_of_candidates, table_in};
-ghost use Rattle.chan_tables.specs.Filling.{info_at, info_of_block, HasLive, HasPins, HasOneLive, HasOnePin};
+ghost use Rattle.chan_tables.specs.Filling.{info_at, info_of_block, HasLive, HasPins, HasOneLive, HasOnePin, with_live, with_pin};
 ghost use Rattle.chan_tables.specs.TablesState.{table_of};
 ghost use Rattle.ssd_histories.specs.Policies as Policies;
 
@@ -71,20 +71,30 @@ fn add_live(infos: &mut [SbInfo], rows: &Rows, count: u32)
     ensures { HasLive rows.now.rows infos.old infos.new }
 {
     for row in 0..count {
-        count_live(infos, &rows.row(row));
+        count_page(infos, &rows.row(row));
     }
 }
 
 // Counts the page that a row names, if it names one.
-fn count_live(infos: &mut [SbInfo], row: &Row)
-    requires few { (sb : ℕ) → sb < length infos.old → (info_at infos.old sb).live + 1 < 2 ^ 32 }
+fn count_page(infos: &mut [SbInfo], row: &Row)
+    requires { (sb : ℕ) → sb < length infos.old → (info_at infos.old sb).live + 1 < 2 ^ 32 }
     ensures { HasOneLive (λ sb. names_superblock sb row.now) infos.old infos.new }
 {
-    if let Row::Page { slot, .. } = row
-        && let Some(info) = infos.get_mut(slot.sb as usize)
-    {
-        info.live += 1;
+    if let Row::Page { slot, .. } = row {
+        let sb = slot.sb as usize;
+        if sb < infos.len() {
+            count_live(infos, sb);
+        }
     }
+}
+
+// Counts one more live page of a superblock.
+fn count_live(infos: &mut [SbInfo], sb: usize)
+    requires in_range { sb < length infos.old }
+    requires few { (info_at infos.old sb).live + 1 < 2 ^ 32 }
+    ensures { infos.new ≡ slice_set infos.old sb (with_live (info_at infos.old sb)) }
+{
+    infos[sb].live += 1;
 }
 
 // Adds the pins of the open looks to a table that has counted none.
@@ -93,16 +103,26 @@ fn add_pins(infos: &mut [SbInfo], looks: &Pins)
     ensures { HasPins looks.now infos.old infos.new }
 {
     for pin in looks.looks() {
-        count_pin(infos, pin);
+        count_look(infos, pin);
     }
 }
 
 // Counts an open look.
-fn count_pin(infos: &mut [SbInfo], pin: &(Tag, Look))
-    requires few { (sb : ℕ) → sb < length infos.old → (info_at infos.old sb).pins + 1 < 2 ^ 32 }
+fn count_look(infos: &mut [SbInfo], pin: &(Tag, Look))
+    requires { (sb : ℕ) → sb < length infos.old → (info_at infos.old sb).pins + 1 < 2 ^ 32 }
     ensures { HasOnePin (λ sb. stands_in sb pin.now) infos.old infos.new }
 {
-    if let Some(info) = infos.get_mut(pin.1.slot.sb as usize) {
-        info.pins += 1;
+    let sb = pin.1.slot.sb as usize;
+    if sb < infos.len() {
+        count_pin(infos, sb);
     }
+}
+
+// Counts one more pin of a superblock.
+fn count_pin(infos: &mut [SbInfo], sb: usize)
+    requires in_range { sb < length infos.old }
+    requires few { (info_at infos.old sb).pins + 1 < 2 ^ 32 }
+    ensures { infos.new ≡ slice_set infos.old sb (with_pin (info_at infos.old sb)) }
+{
+    infos[sb].pins += 1;
 }
