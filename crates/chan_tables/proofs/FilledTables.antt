@@ -158,6 +158,21 @@ all_states slots blocks infos count is =
     ext_get_or no_info infos (table_in slots blocks [] []) (count ∙ sym (table_count slots blocks [] []))
     (λ sb low. is sb (omega (arith, low, count)) ∙ sym (states_at slots blocks sb (omega (arith, low, count))))
 
+-- so it has no live page, and no pin once the live pages are counted
+pub no_live_first : (slots : ℕ) (blocks : List BlockBase) (infos : List SbInfo) → infos ≡ table_in slots blocks [] [] → (sb : ℕ) → sb < length infos → (info_at infos sb).live ≡ 0
+no_live_first slots blocks infos is sb low =
+    let count : length infos ≡ length blocks = ap length is ∙ table_count slots blocks [] [] in
+    ap {B = ℕ} (λ (list : List SbInfo). (info_at list sb).live) is
+    ∙ ap {B = ℕ} (λ (info : SbInfo). info.live) (states_at slots blocks sb (omega (arith, low, count)))
+
+pub no_pins_first : (slots : ℕ) (blocks : List BlockBase) (rows : List Row) (first middle : List SbInfo) → first ≡ table_in slots blocks [] [] → HasLive rows first middle
+    → (sb : ℕ) → sb < length middle → (info_at middle sb).pins ≡ 0
+no_pins_first slots blocks rows first middle is live sb low =
+    let count : length first ≡ length blocks = ap length is ∙ table_count slots blocks [] [] in
+    ap {B = ℕ} (λ (info : SbInfo). info.pins) (live.live_is sb (omega (arith, low, live.count)))
+    ∙ ap {B = ℕ} (λ (list : List SbInfo). (info_at list sb).pins) is
+    ∙ ap {B = ℕ} (λ (info : SbInfo). info.pins) (states_at slots blocks sb (omega (arith, low, count, live.count)))
+
 -- with the live pages and the pins it is the table
 pub table_filled : (slots : ℕ) (blocks : List BlockBase) (rows : List Row) (pins : List (Tag × Look)) (first middle last : List SbInfo) → first ≡ table_in slots blocks [] []
     → HasLive rows first middle → HasPins pins middle last → last ≡ table_in slots blocks rows pins

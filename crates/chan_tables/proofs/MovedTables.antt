@@ -1,15 +1,22 @@
 -- The slot for a copy of a look's page is the next one. The tables that contracts see, by their parts.
-use Rattle.std.proofs.Common.{◌≡◌, ℕ, ◌||◌, if◌then◌else◌, Bool, true, false, List, Some, None}
+use Rattle.std.proofs.Common.{◌≡◌, ℕ, ◌||◌, if◌then◌else◌, Bool, true, false, List, ◌∷◌, Some, None, set, sym}
+use Rattle.std.specs.Prelude.{option_map}
 use Rattle.allocator.specs.Superblocks.{Superblocks}
 use Rattle.map_rows.specs.PageMap.{PageMap}
-use Rattle.ssd_histories.specs.Blocks.{blocks_have_room, next_slot_of}
+use Rattle.ssd_histories.specs.Blocks.{blocks_have_room, next_slot_of, with_next_used}
+use Rattle.ssd_histories.specs.History.{look_of}
+use Rattle.ssd_histories.specs.HistoryLaws.{rows_after}
+use Rattle.ssd_histories.specs.SerialCalls.{entry_of}
+use Rattle.ssd_geo.specs.Superblock.{slots_of}
 use Rattle.ssd_geo.specs.declared.base.BlockBase.{BlockBase}
+use Rattle.ssd_geo.specs.declared.kind.Kind.{Kind}
 use Rattle.ssd_geo.specs.declared.look.Look.{Look}
+use Rattle.ssd_geo.specs.declared.row.Row.{Row}
 use Rattle.ssd_geo.specs.declared.shape.Shape.{Shape}
 use Rattle.ssd_geo.specs.declared.slot.Slot.{Slot}
 use Rattle.ssd_geo.specs.declared.tag.Tag.{Tag}
 use Rattle.chan_tables.specs.Copying.{copy_slot_of, is_in_victim}
-use Rattle.chan_tables.specs.TablesState.{HistoryState, TablesState}
+use Rattle.chan_tables.specs.TablesState.{HistoryState, TablesState, tables_after}
 
 -- the slot for a copy is the next one
 pub copy_is_next : (blocks : List BlockBase) (look : Look) (slot : Slot) → copy_slot_of blocks look ≡ Some slot → next_slot_of blocks ≡ Some slot
@@ -31,3 +38,23 @@ tables_of shape session map blocks looks history = record {
   past = history.past;
   room = history.room;
 }
+
+-- a copy's slot is named in the row of its look
+pub moved_tables : (tables : TablesState) (look : Look) (tag : Tag) (at : ℕ) (slot : Slot) → look_of tables.past at ≡ Some look
+    → record tables {
+      rows = set tables.rows look.row (Row.Page slot look.serial);
+      blocks = with_next_used (slots_of tables.shape.pages tables.shape.dies) tables.blocks;
+      past = entry_of tag (Kind.Move at slot) ∷ tables.past;
+    }
+    ≡ tables_after tables tag (Kind.Move at slot)
+moved_tables tables look tag at slot found =
+    λ i. record {
+      shape = tables.shape;
+      session = tables.session;
+      limit = tables.limit;
+      rows = rows_after (option_map (λ (l : Look). (l.row, Row.Page slot l.serial)) (sym found i)) tables.rows;
+      blocks = with_next_used (slots_of tables.shape.pages tables.shape.dies) tables.blocks;
+      looks = tables.looks;
+      past = entry_of tag (Kind.Move at slot) ∷ tables.past;
+      room = tables.room;
+    }

@@ -19,8 +19,9 @@ impl Tables {
         requires { length infos.old ≡ self.now.shape.superblocks }
         ensures { infos.new ≡ table_of self.now }
     {
-        fill_states(infos, &self.blocks, self.shape.slots());
-        add_live(infos, &self.rows, self.shape.rows);
+        let shape = &self.shape;
+        fill_states(infos, &self.blocks, shape.superblocks, shape.slots());
+        add_live(infos, &self.rows, shape.rows);
         add_pins(infos, &self.looks);
     }
 }
@@ -40,13 +41,14 @@ fn is_candidate(info: &SbInfo) -> bool
     matches!(info.state, SbState::Sealed) && info.live < info.slots
 }
 
-// Fills a table with the states of the superblocks.
-fn fill_states(infos: &mut [SbInfo], blocks: &Blocks, slots: u32)
+// Fills a table with the states of the superblocks, so many with so many slots each.
+fn fill_states(infos: &mut [SbInfo], blocks: &Blocks, superblocks: u16, slots: u32)
+    requires superblocks { superblocks ≡ length blocks.now.blocks }
     requires count { length infos.old ≡ length blocks.now.blocks }
     ensures { infos.new ≡ table_in slots blocks.now.blocks [] [] }
 {
-    for (sb, info) in infos.iter_mut().enumerate() {
-        *info = info_of_block(&blocks.block(sb as u16), slots);
+    for sb in 0..superblocks {
+        infos[sb as usize] = info_of_block(&blocks.block(sb), slots);
     }
 }
 

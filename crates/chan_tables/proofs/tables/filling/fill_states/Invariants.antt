@@ -4,4 +4,4 @@ use Rattle.chan_tables.specs.Filling.{info_at, info_of_block}
 use Rattle.chan_tables.proofs.tables.filling.fill_states.Given as goal
 
 abbrev pub invariant-loop-sb : goal.invariant-loop-sb
-invariant-loop-sb l = (sb : ℕ) → sb < l.sb → info_at l.infos sb ≡ info_of_block l.slots (block_at l.blocks.blocks sb)
+invariant-loop-sb l = (k : ℕ) → k < l.sb → info_at l.infos k ≡ info_of_block l.slots (block_at l.blocks.blocks k)
