@@ -1,12 +1,12 @@
 -- Tables still fit each other after one superblock was retired, or was made the victim.
-use Rattle.std.proofs.Common.{◌≡◌, ℕ, ◌<◌, ◌≤◌, ◌&&◌, Bool, true, false, List, length, set, Option, Some, None, refl, sym, ◌∙◌, ap, subst, arith, length-set}
+use Rattle.std.proofs.Common.{◌≡◌, ℕ, ◌<◌, ◌≤◌, ◌&&◌, Bool, true, false, List, length, set, Option, Some, None, refl, ◌∙◌, ap, arith, length-set}
 use Rattle.std.specs.Prelude.{if◌then◌else◌}
 use Rattle.std.proofs.lemmas.List.Quantifiers.{position-Some}
 use Rattle.allocator.specs.Superblocks.{Superblocks}
 use Rattle.map_rows.specs.PageMap.{PageMap}
-use Rattle.ssd_histories.specs.Blocks.{blank_block, block_at, first_some, freshest_of, frontier_of, is_free_block, is_freshest, is_frontier_block, is_no_fresher, is_victim_block, next_slot_of, next_superblock, retired_block, victim_block, victim_in, with_retired, with_victim}
+use Rattle.ssd_histories.specs.Blocks.{blank_block, block_at, first_some, freshest_of, frontier_of, is_free_block, is_freshest, is_frontier_block, is_no_fresher, is_victim_block, next_slot_of, next_superblock, retired_block, with_retired}
 use Rattle.std.specs.List.{list_all}
-use Rattle.ssd_histories.specs.PageMap.{live_in, row_at}
+use Rattle.ssd_histories.specs.PageMap.{row_at}
 use Rattle.ssd_histories.specs.States.{is_free, is_frontier, is_victim}
 use Rattle.ssd_histories.proofs.PinnedWords.{slot_block}
 use Rattle.ssd_geo.specs.declared.base.BlockBase.{BlockBase}
@@ -17,7 +17,6 @@ use Rattle.ssd_geo.specs.declared.superblock.SbState.{SbState}
 use Rattle.ssd_geo.specs.declared.superblock.SbState.TheVariants.{Free, Frontier, Sealed, Bad, Victim}
 use Rattle.ssd_geo.specs.declared.tag.Tag.{Tag}
 use Rattle.chan_tables.specs.TablesState.{FitTogether, HistoryState, NamesUsedIn}
-use Rattle.chan_tables.proofs.ErasedTables.{not_live, other_named, victim_lt}
 use Rattle.chan_tables.proofs.Fits.{erases_kept}
 use Rattle.chan_tables.proofs.UsedRows.{names_more, used_set}
 
@@ -97,22 +96,3 @@ fit_retired shape session map blocks looks history slot fit next =
     (λ row.
     names_more blocks.blocks (set blocks.blocks slot.sb to)
     (used_set blocks.blocks slot.sb to (retired_used (block_at blocks.blocks slot.sb) is.not_victim)) (row_at map.rows row) (fit.names_used row))
-
--- the victim, of which no row names a slot, is retired
-pub fit_bad_erase : (shape : Shape) (session : ℕ) (map : PageMap) (blocks : Superblocks) (looks : List (Tag × Look)) (history : HistoryState) (sb : ℕ)
-    → FitTogether shape session map blocks looks history → victim_in blocks.blocks ≡ Some sb → live_in map.rows sb ≡ 0
-    → FitTogether shape session map (record blocks { blocks = with_retired blocks.blocks sb }) looks history
-fit_bad_erase shape session map blocks looks history sb fit victim none =
-    let to : BlockBase = retired_block (block_at blocks.blocks sb) in
-    fit_block shape session map blocks looks history sb to fit (victim_lt blocks.blocks sb victim) refl
-    (λ row. other_named blocks.blocks sb to (row_at map.rows row) (not_live map.rows row sb none) (fit.names_used row))
-
--- a superblock is made the victim, and keeps its used slots
-pub fit_victim : (shape : Shape) (session : ℕ) (map : PageMap) (blocks : Superblocks) (looks : List (Tag × Look)) (history : HistoryState) (sb : ℕ)
-    → FitTogether shape session map blocks looks history → sb < length blocks.blocks
-    → FitTogether shape session map (record blocks { blocks = with_victim blocks.blocks sb }) looks history
-fit_victim shape session map blocks looks history sb fit lt =
-    let to : BlockBase = victim_block (block_at blocks.blocks sb) in
-    fit_block shape session map blocks looks history sb to fit lt refl
-    (λ row.
-    names_more blocks.blocks (set blocks.blocks sb to) (used_set blocks.blocks sb to (omega arith)) (row_at map.rows row) (fit.names_used row))

@@ -1,7 +1,6 @@
 pub mod ChangedBlocks
 pub mod CondemnedTables
 pub mod EarlierLooks
-pub mod ErasedTables
 pub mod FilledRows
 pub mod FilledTables
 pub mod Fits

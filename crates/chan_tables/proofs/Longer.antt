@@ -2,7 +2,7 @@
 use Rattle.std.proofs.Common.{◌≡◌, ℕ, ◌+◌, ◌<◌, ◌≤◌, List, [], ◌∷◌, ◌++◌, length, refl, sym, ◌∙◌, ap, arith, All}
 use Rattle.std.specs.Prelude.{IsSome}
 use Rattle.std.proofs.lemmas.List.Elements.{All-push}
-use Rattle.ssd_histories.specs.History.{looks_after, open_looks}
+use Rattle.ssd_histories.specs.History.{open_looks}
 use Rattle.ssd_histories.specs.OpenLooks.{look_at, without_look}
 use Rattle.ssd_histories.specs.SerialCalls.{entry_of}
 use Rattle.ssd_geo.specs.declared.entry.Entry.{Entry}

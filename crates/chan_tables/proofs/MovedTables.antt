@@ -1,30 +1,20 @@
 -- The slot for a copy of a look's page is the next one. The tables that contracts see, by their parts.
-use Rattle.std.proofs.Common.{◌≡◌, ℕ, ◌||◌, if◌then◌else◌, Bool, true, false, List, ◌∷◌, Some, None, set, sym}
+use Rattle.std.proofs.Common.{◌≡◌, ℕ, List, ◌∷◌, Some, set, sym}
 use Rattle.std.specs.Prelude.{option_map}
 use Rattle.allocator.specs.Superblocks.{Superblocks}
 use Rattle.map_rows.specs.PageMap.{PageMap}
-use Rattle.ssd_histories.specs.Blocks.{blocks_have_room, next_slot_of, with_next_used}
+use Rattle.ssd_histories.specs.Blocks.{with_next_used}
 use Rattle.ssd_histories.specs.History.{look_of}
 use Rattle.ssd_histories.specs.HistoryLaws.{rows_after}
 use Rattle.ssd_histories.specs.SerialCalls.{entry_of}
 use Rattle.ssd_geo.specs.Superblock.{slots_of}
-use Rattle.ssd_geo.specs.declared.base.BlockBase.{BlockBase}
 use Rattle.ssd_geo.specs.declared.kind.Kind.{Kind}
 use Rattle.ssd_geo.specs.declared.look.Look.{Look}
 use Rattle.ssd_geo.specs.declared.row.Row.{Row}
 use Rattle.ssd_geo.specs.declared.shape.Shape.{Shape}
 use Rattle.ssd_geo.specs.declared.slot.Slot.{Slot}
 use Rattle.ssd_geo.specs.declared.tag.Tag.{Tag}
-use Rattle.chan_tables.specs.Copying.{copy_slot_of, is_in_victim}
 use Rattle.chan_tables.specs.TablesState.{HistoryState, TablesState, tables_after}
-
--- the slot for a copy is the next one
-pub copy_is_next : (blocks : List BlockBase) (look : Look) (slot : Slot) → copy_slot_of blocks look ≡ Some slot → next_slot_of blocks ≡ Some slot
-copy_is_next blocks look slot e = by_room (blocks_have_room blocks || is_in_victim blocks look) e
-  where
-    by_room : (b : Bool) → (if b then next_slot_of blocks else None) ≡ Some slot → next_slot_of blocks ≡ Some slot
-    by_room true e = e
-    by_room false e = cc
 
 -- the tables that contracts see
 abbrev pub tables_of : Shape → ℕ → PageMap → Superblocks → List (Tag × Look) → HistoryState → TablesState

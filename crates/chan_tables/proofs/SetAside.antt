@@ -83,34 +83,6 @@ sum_kept past entry (pin ∷ looks) =
       sum_kept past entry looks,
     )
 
--- a sense uses one
-pub sense_uses : (past : List Entry) (entry : Entry) (at : ℕ) → is_sense_of at entry.kind ≡ true → senses_had past at < 168 → UsesOne past entry at
-sense_uses past entry at sense few pin here =
-    let senses : is_sense_of pin.1.at entry.kind ≡ true = subst (λ (n : ℕ). is_sense_of n entry.kind ≡ true) (sym here) sense in
-    let fewer : senses_had past pin.1.at < 168 = subst (λ (n : ℕ). senses_had past n < 168) (sym here) few in
-    omega (
-      arith,
-      one_more past entry pin.1.at true senses,
-      recovered_kept past entry pin.1.at,
-      uncorrectable_kept past entry pin.1.at,
-      fault_kept past entry pin.1.at,
-    )
-
--- and the first entry of each kind that ends a copy
-pub recovered_uses : (past : List Entry) (entry : Entry) (at : ℕ) → is_after_recovered at entry.kind ≡ true → ends_recovered past at ≡ false → UsesOne past entry at
-recovered_uses past entry at ends none pin here =
-    let used : (if ends_recovered (entry ∷ past) pin.1.at then 0 else 1) + 1 ≤ (if ends_recovered past pin.1.at then 0 else 1) =
-    left_used (is_after_recovered pin.1.at entry.kind) (ends_recovered past pin.1.at)
-    (subst (λ (n : ℕ). is_after_recovered n entry.kind ≡ true) (sym here) ends)
-    (subst (λ (n : ℕ). ends_recovered past n ≡ false) (sym here) none) in
-    omega (
-      arith,
-      used,
-      senses_kept past entry pin.1.at (is_sense_of pin.1.at entry.kind) refl,
-      uncorrectable_kept past entry pin.1.at,
-      fault_kept past entry pin.1.at,
-    )
-
 pub uncorrectable_uses : (past : List Entry) (entry : Entry) (at : ℕ) → is_after_uncorrectable at entry.kind ≡ true → ends_uncorrectable past at ≡ false → UsesOne past entry at
 uncorrectable_uses past entry at ends none pin here =
     let used : (if ends_uncorrectable (entry ∷ past) pin.1.at then 0 else 1) + 1 ≤ (if ends_uncorrectable past pin.1.at then 0 else 1) =
@@ -123,21 +95,6 @@ uncorrectable_uses past entry at ends none pin here =
       senses_kept past entry pin.1.at (is_sense_of pin.1.at entry.kind) refl,
       recovered_kept past entry pin.1.at,
       fault_kept past entry pin.1.at,
-    )
-
--- and the first sense that failed
-pub fault_uses : (past : List Entry) (entry : Entry) (at : ℕ) → is_fault_sense_of at entry.kind ≡ true → has_fault_sense past at ≡ false → UsesOne past entry at
-fault_uses past entry at fails none pin here =
-    let used : (if has_fault_sense (entry ∷ past) pin.1.at then 0 else 1) + 1 ≤ (if has_fault_sense past pin.1.at then 0 else 1) =
-    left_used (is_fault_sense_of pin.1.at entry.kind) (has_fault_sense past pin.1.at)
-    (subst (λ (n : ℕ). is_fault_sense_of n entry.kind ≡ true) (sym here) fails)
-    (subst (λ (n : ℕ). has_fault_sense past n ≡ false) (sym here) none) in
-    omega (
-      arith,
-      used,
-      senses_kept past entry pin.1.at (is_sense_of pin.1.at entry.kind) refl,
-      recovered_kept past entry pin.1.at,
-      uncorrectable_kept past entry pin.1.at,
     )
 
 sum_used : (past : List Entry) (entry : Entry) (at : ℕ) (looks : List (Tag × Look)) → UsesOne past entry at

@@ -1,8 +1,9 @@
 -- Rows that name used slots still do after a change of a row, and after one more slot is used.
-use Rattle.std.proofs.Common.{◌≡◌, ℕ, zero, suc, ◌+◌, ◌<◌, ◌≤◌, List, [], ◌∷◌, length, set, Option, Some, None, refl, sym, ◌∙◌, ap, subst, arith, get_or-set_same}
+use Rattle.std.proofs.Common.{◌≡◌, ℕ, zero, suc, ◌+◌, ◌<◌, ◌≤◌, ◌==◌, ◌&&◌, true, List, [], ◌∷◌, length, set, Option, Some, None, refl, sym, ◌∙◌, ap, subst, arith, get_or-set_same}
 use Rattle.std.specs.Prelude.{unwrap_or}
 use Rattle.ssd_histories.specs.Blocks.{blank_block, block_at, next_slot_of, next_superblock, slot_after_used, slot_in, used_in, with_next_used, with_slot_used}
-use Rattle.ssd_histories.specs.PageMap.{row_at}
+use Rattle.std.proofs.lemmas.Bool.Decides.{nat_tests}
+use Rattle.ssd_histories.specs.PageMap.{NoOtherNames, names_slot, row_at}
 use Rattle.ssd_geo.specs.declared.base.BlockBase.{BlockBase}
 use Rattle.ssd_geo.specs.declared.row.Row.{Row}
 use Rattle.ssd_geo.specs.declared.slot.Slot.{Slot}
@@ -46,18 +47,6 @@ pub next_used : (slots : ℕ) (blocks : List BlockBase) (slot : Slot) → next_s
     → with_next_used slots blocks ≡ set blocks slot.sb (with_slot_used slots (block_at blocks slot.sb))
 next_used slots blocks slot next = ap (used_in slots blocks) (slot_block blocks (next_superblock blocks) slot next)
 
--- its superblock was erased as often as before
-erases_set : (blocks : List BlockBase) (k : ℕ) (to : BlockBase) → to.erases ≡ (block_at blocks k).erases → (block_at (set blocks k to) k).erases ≡ (block_at blocks k).erases
-erases_set [] k to e = refl
-erases_set (x ∷ blocks) zero to e = e
-erases_set (x ∷ blocks) (suc k) to e = erases_set blocks k to e
-
-pub next_erases : (slots : ℕ) (blocks : List BlockBase) (slot : Slot) → next_slot_of blocks ≡ Some slot
-    → (block_at (with_next_used slots blocks) slot.sb).erases ≡ (block_at blocks slot.sb).erases
-next_erases slots blocks slot next =
-    ap (λ (list : List BlockBase). (block_at list slot.sb).erases) (next_used slots blocks slot next)
-    ∙ erases_set blocks slot.sb (with_slot_used slots (block_at blocks slot.sb)) refl
-
 -- rows after a write name used slots
 pub names_written : (slots : ℕ) (blocks : List BlockBase) (rows : List Row) (row : ℕ) (slot : Slot) (serial : ℕ) → next_slot_of blocks ≡ Some slot → slot.sb < length blocks
     → ((r : ℕ) → NamesUsedIn blocks (row_at rows r))
@@ -73,3 +62,19 @@ names_written slots blocks rows row slot serial next lt h =
     let one_more : (block_at after slot.sb).used ≡ (block_at blocks slot.sb).used + 1 = ap (λ (block : BlockBase). block.used) here in
     names_set after rows row (Row.Page slot serial) (omega (arith, one_more, next_index blocks slot next))
     (λ r. names_more blocks after more (row_at rows r) (h r))
+
+-- and no row names the next slot, which isn't used
+same_slot : (p q r s : ℕ) → (p == q && r == s) ≡ true → (p ≡ q) × (r ≡ s)
+same_slot p q r s e = (grind (arith, nat_tests), grind (arith, nat_tests))
+
+pub none_names_next : (blocks : List BlockBase) (rows : List Row) (row : ℕ) (slot : Slot) (serial : ℕ) → next_slot_of blocks ≡ Some slot
+    → ((r : ℕ) → NamesUsedIn blocks (row_at rows r)) → NoOtherNames rows row (Row.Page slot serial)
+none_names_next blocks rows row slot serial next used other names = absurd (by_row (row_at rows other) names (used other))
+  where
+    by_row : (to : Row) → names_slot slot to ≡ true → NamesUsedIn blocks to → ⊥
+    by_row Row.Empty e h = cc
+    by_row Row.Lost e h = cc
+    by_row (Row.Page named other_serial) e h =
+        let same : (slot.sb ≡ named.sb) × (slot.index ≡ named.index) = same_slot slot.sb named.sb slot.index named.index e in
+        let more : (block_at blocks slot.sb).used ≡ (block_at blocks named.sb).used = ap {B = ℕ} (λ (sb : ℕ). (block_at blocks sb).used) same.0 in
+        omega (arith, h, more, same.1, next_index blocks slot next)

@@ -1,6 +1,6 @@
 -- What do the tables of a channel hold, and what does an entry make of them? They are all that a channel keeps but its
 -- cells. What an entry does to them follows from its kind alone, for every kind.
-use Rattle.std.specs.Prelude.{ℕ, ◌≡◌, ◌+◌, ◌-◌, ◌*◌, ◌^◌, ◌≤◌, ◌<◌, Bool, false, List, ◌∷◌, length, count_by, sum_by, if◌then◌else◌, Some, Result, Ok, Err, All, ⊤}
+use Rattle.std.specs.Prelude.{ℕ, ◌≡◌, ◌+◌, ◌-◌, ◌*◌, ◌^◌, ◌≤◌, ◌<◌, Bool, false, List, ◌∷◌, length, count_by, sum_by, if◌then◌else◌, Result, Ok, Err, All, ⊤}
 use Rattle.std.specs.List.{list_any}
 use Rattle.allocator.specs.Superblocks.{Superblocks}
 use Rattle.map_rows.specs.PageMap.{PageMap}

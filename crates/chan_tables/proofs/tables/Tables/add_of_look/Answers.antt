@@ -1,9 +1,7 @@
-use Rattle.std.proofs.Common.{◌≡◌, sym, ap, subst, List}
+use Rattle.std.proofs.Common.{sym, subst}
 use Rattle.std.specs.Prelude.{IsSome}
 use Rattle.ssd_histories.specs.OpenLooks.{look_at}
 use Rattle.ssd_histories.specs.SerialCalls.{entry_of}
-use Rattle.ssd_geo.specs.declared.look.Look.{Look}
-use Rattle.ssd_geo.specs.declared.tag.Tag.{Tag}
 use Rattle.chan_tables.specs.TablesState.{TablesState, UsesOne}
 use Rattle.chan_tables.proofs.Fits.{fit_history, looks_of_tables}
 use Rattle.chan_tables.proofs.Longer.{HasLooks, room_for_entry, used_longer}

@@ -1,9 +1,5 @@
-use Rattle.std.proofs.Common.{◌≡◌, ◌<◌, ◌∙◌, ℕ, length, ap, arith, sym, subst}
-use Rattle.ssd_geo.specs.Superblock.{slots_of}
-use Rattle.ssd_geo.specs.declared.superblock.SbInfo.{SbInfo}
+use Rattle.std.proofs.Common.{◌≡◌, ℕ, subst}
 use Rattle.ssd_histories.specs.Policies.{table_in}
-use Rattle.chan_tables.specs.Filling.{info_at}
-use Rattle.chan_tables.specs.TablesState.{TablesState, table_of}
 use Rattle.chan_tables.proofs.FilledTables.{no_live_first, no_pins_first, table_filled}
 use Rattle.chan_tables.proofs.tables.Tables.fill_table.Goals as goal
 

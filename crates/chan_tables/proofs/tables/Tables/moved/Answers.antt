@@ -1,4 +1,4 @@
-use Rattle.std.proofs.Common.{◌≡◌, List, ◌∷◌, sym, ap, subst, ◌∙◌, Some}
+use Rattle.std.proofs.Common.{◌≡◌, List, sym, subst, ◌∙◌, Some}
 use Rattle.ssd_histories.specs.History.{look_of, open_looks}
 use Rattle.ssd_histories.specs.OpenLooks.{look_at}
 use Rattle.ssd_geo.specs.declared.look.Look.{Look}

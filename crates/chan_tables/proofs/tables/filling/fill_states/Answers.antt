@@ -1,4 +1,4 @@
-use Rattle.std.proofs.Common.{arith, ◌<◌, ℕ, length}
+use Rattle.std.proofs.Common.{arith}
 use Rattle.chan_tables.proofs.FilledTables.{all_states}
 use Rattle.chan_tables.proofs.tables.filling.fill_states.Goals as goal
 
