@@ -1,10 +1,10 @@
 -- Open looks are those that their entries made, so an open look is found in the past, and a new look at its own position.
-use Rattle.std.proofs.Common.{◌≡◌, ℕ, ◌<◌, ◌≤◌, ◌==◌, cond, Bool, true, false, List, [], ◌∷◌, length, Option, Some, None, refl, sym, ◌∙◌, ap, subst, arith, All}
+use Rattle.std.proofs.Common.{◌≡◌, ℕ, ◌<◌, ◌≤◌, ◌==◌, cond, Bool, true, false, List, [], ◌∷◌, ◌++◌, length, Option, Some, None, refl, sym, ◌∙◌, ap, subst, arith, All}
 use Rattle.std.specs.Prelude.{IfSome, unwrap_or}
 use Rattle.std.proofs.lemmas.Bool.{eqb-true}
 use Rattle.std.proofs.lemmas.Bool.Decides.{nat_tests}
 use Rattle.std.proofs.lemmas.List.Elements.{All-nil, All-cons, All-head, All-tail, All-append, All-weaker}
-use Rattle.ssd_histories.specs.History.{look_made, look_of, looks_after, open_looks, with_look}
+use Rattle.ssd_histories.specs.History.{is_same_tag, look_by, look_made, look_of, looks_after, open_looks, with_look}
 use Rattle.ssd_histories.specs.OpenLooks.{began_at, look_at}
 use Rattle.ssd_histories.specs.SerialCalls.{entry_of}
 use Rattle.ssd_geo.specs.declared.entry.Entry.{Entry}
@@ -35,6 +35,20 @@ none_before at [] h = refl
 none_before at (pin ∷ looks) h =
     ap (λ (b : Bool). cond b (Some pin) (look_at looks at)) (other pin.1.at at (All-head (BeganBefore at) pin looks h))
     ∙ none_before at looks (All-tail (BeganBefore at) pin looks h)
+
+-- where none did, the new one is found
+found_last : (at : ℕ) (looks : List (Tag × Look)) (pin : Tag × Look) → pin.1.at ≡ at → look_at looks at ≡ None → look_at (looks ++ pin ∷ []) at ≡ Some pin
+found_last at [] pin is none = ap (λ (b : Bool). cond b (Some pin) None) (same pin.1.at at is)
+found_last at (first ∷ looks) pin is none = by_first (began_at at first) refl (λ e. found_last at looks pin is e)
+  where
+    by_first : (b : Bool) → began_at at first ≡ b → (look_at looks at ≡ None → look_at (looks ++ pin ∷ []) at ≡ Some pin)
+        → look_at (first ∷ (looks ++ pin ∷ [])) at ≡ Some pin
+    by_first true e rest =
+        let found : Some first ≡ None = sym (ap (λ (b : Bool). cond b (Some first) (look_at looks at)) e) ∙ none in
+        cc
+    by_first false e rest =
+        ap (λ (b : Bool). cond b (Some first) (look_at (looks ++ pin ∷ []) at)) e
+        ∙ rest (sym (ap (λ (b : Bool). cond b (Some first) (look_at looks at)) e) ∙ none)
 
 -- one more entry makes no look at an earlier position
 made_before : (past : List Entry) (entry : Entry) (pin : Tag × Look) → IsMade past pin → IsMade (entry ∷ past) pin
@@ -127,3 +141,12 @@ each_found P looks at all = by_look (look_at looks at) (λ pin e. found_has P lo
     by_look : (o : Option (Tag × Look)) → ((pin : Tag × Look) → o ≡ Some pin → P pin) → IfSome o P
     by_look None h = tt
     by_look (Some pin) h = h pin refl
+
+same_tag : (tag : Tag) → is_same_tag tag tag ≡ true
+same_tag tag = grind (arith, nat_tests)
+
+pub found_new : (looks : List (Tag × Look)) (tag : Tag) (look : Look) → look_at looks look.at ≡ None
+    → look_by tag (look_at (looks ++ (tag, look) ∷ []) look.at) ≡ Some look
+found_new looks tag look none =
+    ap (look_by tag) (found_last look.at looks (tag, look) refl none)
+    ∙ ap (λ (b : Bool). elim b [ true ↦ Some look | false ↦ None ]) (same_tag tag)

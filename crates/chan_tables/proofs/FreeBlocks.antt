@@ -1,6 +1,6 @@
 -- Where there is no next slot, no superblock is free, and a victim with a live page can't be emptied.
 use Rattle.std.proofs.Common.{◌≡◌, ℕ, zero, suc, ◌<◌, ◌==◌, nat_lt, nat_le, not, ◌&&◌, ◌||◌, cond, Bool, true, false, List, [], ◌∷◌, length, get_or, refl, sym, ◌∙◌, ap, subst, Option, Some, None, arith}
-use Rattle.std.specs.Prelude.{count_by, is_none, position, if◌then◌else◌}
+use Rattle.std.specs.Prelude.{count_by, is_some, is_none, position, if◌then◌else◌}
 use Rattle.std.specs.List.{list_all}
 use Rattle.std.proofs.lemmas.Bool.Decides.{nat_tests}
 use Rattle.std.proofs.lemmas.List.Sums.{fails_before_first, sum_by-cons}
@@ -86,6 +86,16 @@ neither None freshest e = (refl, e)
 none_next : (blocks : List BlockBase) (o : Option ℕ) → slot_in blocks o ≡ None → o ≡ None
 none_next blocks (Some sb) e = cc
 none_next blocks None e = refl
+
+-- so the host has no room
+pub no_next_no_room : (blocks : List BlockBase) → next_slot_of blocks ≡ None → blocks_have_room blocks ≡ false
+no_next_no_room blocks e =
+    let both : (frontier_of blocks ≡ None) × (freshest_of blocks ≡ None) =
+    neither (frontier_of blocks) (freshest_of blocks) (none_next blocks (next_superblock blocks) e) in
+    no_room (frontier_of blocks) (free_blocks_in blocks) both.0 (none_free blocks both.1)
+  where
+    no_room : (frontier : Option ℕ) (free : ℕ) → frontier ≡ None → free ≡ 0 → (is_some frontier && nat_le 1 free || nat_le 2 free) ≡ false
+    no_room frontier free closed none = rw (closed, none) refl
 
 -- a row that names a slot of a superblock is a live page of it
 pub live_row : (rows : List Row) (row sb : ℕ) → names_superblock sb (row_at rows row) ≡ true → 0 < live_in rows sb
