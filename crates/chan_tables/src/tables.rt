@@ -1,6 +1,6 @@
 // The tables of a channel, and what may be asked of them.
 ghost use Rattle.std.specs.Prelude.{◌≡◌, ◌+◌, ◌^◌, ◌<◌, ◌≤◌, ℕ, [], All, IfOk, OnOk, length, replicate};
-ghost use Rattle.ssd_histories.specs.Blocks.{AreSound, block_at};
+ghost use Rattle.ssd_histories.specs.Blocks.{AreSound};
 ghost use Rattle.ssd_histories.specs.History.{history_of};
 ghost use Rattle.ssd_histories.specs.PageMap.{row_at};
 ghost use Rattle.ssd_geo.specs.Superblock.{slots_of};
@@ -119,14 +119,6 @@ impl Tables {
         ensures { result.now ≡ self.now.shape }
     {
         &self.shape
-    }
-
-    /// How often a superblock was erased.
-    pub fn erases(&self, sb: u16) -> u32
-        requires { sb < self.now.shape.superblocks }
-        ensures { result ≡ (block_at self.now.blocks sb).erases }
-    {
-        self.blocks.block(sb).erases
     }
 
     /// The history, oldest entry first.

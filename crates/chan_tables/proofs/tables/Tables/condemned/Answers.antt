@@ -31,14 +31,14 @@ push-requires-clause-room c =
     let was = c.self.inside in
     let looks : ◌≡◌ {A = List (Tag × Look)} was.looks c.args.self.now.looks = ap {B = List (Tag × Look)} (λ (s : TablesState). s.looks) c.self.view_is in
     let some : IsSome (look_at was.looks c.args.at) = subst (λ (l : List (Tag × Look)). IsSome (look_at l c.args.at)) (sym looks) c.requires.is_open in
-    (room_for_entry was.shape.rows was.history was.looks c.args.at some (looks_of_tables was.shape was.session was.rows was.blocks was.looks was.history c.self.invariant)).0
+    (room_for_entry was.shape.rows was.history was.looks c.args.at some (looks_of_tables _ _ _ _ _ _ c.self.invariant)).0
 
 pub push-requires-clause-limit : goal.push-requires-clause-limit
 push-requires-clause-limit c =
     let was = c.self.inside in
     let looks : ◌≡◌ {A = List (Tag × Look)} was.looks c.args.self.now.looks = ap {B = List (Tag × Look)} (λ (s : TablesState). s.looks) c.self.view_is in
     let some : IsSome (look_at was.looks c.args.at) = subst (λ (l : List (Tag × Look)). IsSome (look_at l c.args.at)) (sym looks) c.requires.is_open in
-    (room_for_entry was.shape.rows was.history was.looks c.args.at some (looks_of_tables was.shape was.session was.rows was.blocks was.looks was.history c.self.invariant)).1
+    (room_for_entry was.shape.rows was.history was.looks c.args.at some (looks_of_tables _ _ _ _ _ _ c.self.invariant)).1
 
 pub invariant_of-self : goal.invariant_of-self
 invariant_of-self c =
