@@ -1,4 +1,4 @@
-ghost use Rattle.std.specs.Prelude.{◌≡◌, [], ◌∷◌, ◌++◌, IfOk, if◌then◌else◌, is_ok, length, position};
+ghost use Rattle.std.specs.Prelude.{◌≡◌, [], ◌∷◌, ◌++◌, ◌<◌, ◌^◌, IfOk, if◌then◌else◌, is_ok, length, position};
 ghost use Rattle.ssd_histories.specs.OpenLooks.{began_at, look_at, looks_in, without_look};
 
 use ssd_geo::{Look, Memory, Tag};
@@ -74,6 +74,14 @@ impl Pins {
         ensures { result ≡ looks_in self.now sb }
     {
         self.pins.iter().filter(|pin| pin.1.slot.sb == sb).count() as u32
+    }
+
+    /// The open looks, each with its call.
+    pub fn looks(&self) -> &[(Tag, Look)]
+        ensures value { result.now ≡ self.now }
+        ensures few { length self.now < 2 ^ 32 }
+    {
+        &self.pins
     }
 
     /// How many looks are open.

@@ -1,0 +1,13 @@
+pub mod ChangedBlocks
+pub mod CondemnedTables
+pub mod EarlierLooks
+pub mod FilledRows
+pub mod FilledTables
+pub mod Fits
+pub mod FreeBlocks
+pub mod LiveRows
+pub mod Longer
+pub mod MovedTables
+pub mod SetAside
+pub mod SpareRoom
+pub mod UsedRows
