@@ -3,17 +3,29 @@ use super::*;
 use ssd_geo::{CellLaw, ImageHead, Items, Shape, Weak};
 use ssd_io::{Failed, MemSink, MemSource, Source, SureSource};
 use std::alloc::Global;
+use std::process::Abort;
 use std::test::Fail;
 
 // A blank image of 1 channel with 3 dies, 4 superblocks and pages of 48 bytes, without weak or bad blocks.
-const IMAGE: [u8; 93] = [
-    0x53, 0x53, 0x44, 0x49, 0x4d, 0x47, 0x30, 0x31, 0x01, 0x03, 0x04, 0x00, 0x02, 0x00, 0x40, 0x00,
-    0x03, 0x06, 0x02, 0x08, 0x08, 0x00, 0x00, 0x00, 0x08, 0x00, 0x00, 0x00, 0x01, 0x00, 0x00, 0x00,
-    0x00, 0x00, 0x00, 0x00, 0x00, 0x00, 0x00, 0x00, 0x9c, 0xff, 0x64, 0x00, 0x00, 0x00, 0x0a, 0x00,
-    0x00, 0x00, 0xc4, 0xff, 0x00, 0x00, 0x01, 0x00, 0xff, 0xff, 0x01, 0x00, 0x00, 0x00, 0xff, 0xff,
-    0x05, 0x00, 0xff, 0xff, 0x07, 0x00, 0x00, 0x00, 0x00, 0x00, 0x00, 0x00, 0xff, 0xff, 0x0b, 0x00,
-    0x03, 0x00, 0x01, 0x00, 0xff, 0xff, 0x00, 0x00, 0x00, 0x00, 0x00, 0x00, 0x00,
-];
+fn image() -> &'static [u8] {
+    b"SSDIMG01\x01\x03\x04\x00\x02\x00\x40\x00\
+      \x03\x06\x02\x08\x08\x00\x00\x00\x08\x00\x00\x00\x01\x00\x00\x00\
+      \x00\x00\x00\x00\x00\x00\x00\x00\x9c\xff\x64\x00\x00\x00\x0a\x00\
+      \x00\x00\xc4\xff\x00\x00\x01\x00\xff\xff\x01\x00\x00\x00\xff\xff\
+      \x05\x00\xff\xff\x07\x00\x00\x00\x00\x00\x00\x00\xff\xff\x0b\x00\
+      \x03\x00\x01\x00\xff\xff\x00\x00\x00\x00\x00\x00\x00"
+}
+
+// The same image with 4 rows in place of 8.
+fn image_of_few_rows(alloc: Global) -> Result<Vec<u8>, Fail> {
+    image_with(alloc, image(), 24, &[4])
+}
+
+// Two weak blocks and a bad one, and that the image is full.
+fn lists() -> &'static [u8] {
+    b"\x02\x00\x00\x00\x02\x00\x07\x00\x00\x00\x00\x02\x01\x00\x00\x00\x00\x01\x01\x00\
+      \x00\x00\x03\x00\x01"
+}
 
 // The same image in the second version, with so many codewords a page of this lifting size.
 fn second_version(alloc: Global, image: &[u8], words: u8, lifting: u8) -> Result<Vec<u8>, Fail> {
@@ -78,7 +90,7 @@ fn image_with(alloc: Global, image: &[u8], at: usize, others: &[u8]) -> Result<V
 #[test]
 fn a_head_is_read_and_what_follows_is_left(rt: HostRuntime) -> Result<(), Fail> {
     let alloc = rt.alloc();
-    let mut source = SureSource::new(image_with(alloc, &IMAGE, 93, &[7])?);
+    let mut source = SureSource::new(image_with(alloc, image(), 93, &[7])?);
     let shape = shape_with(1, 64, 8)?;
     let want = head_with(alloc, shape, Vec::new(alloc), Vec::new(alloc), false, 93)?;
     assert_eq!(rt; read_head(alloc, &mut source), Ok(want));
@@ -92,7 +104,7 @@ fn a_head_is_read_and_what_follows_is_left(rt: HostRuntime) -> Result<(), Fail> 
 fn a_head_of_the_second_version_is_read(rt: HostRuntime) -> Result<(), Fail> {
     let alloc = rt.alloc();
     for (words, lifting) in [(1, 64), (2, 32), (4, 16)] {
-        let image = second_version(alloc, &IMAGE, words, lifting)?;
+        let image = second_version(alloc, image(), words, lifting)?;
         let mut source = SureSource::new(image_with(alloc, &image, 94, &[7])?);
         let shape = shape_with(words, lifting as u16, 8)?;
         let want = head_with(alloc, shape, Vec::new(alloc), Vec::new(alloc), false, 94)?;
@@ -112,7 +124,7 @@ fn other_numbers_of_codewords_are_refused(rt: HostRuntime) -> Result<(), Fail> {
             at: 8,
             fault: ImageFault::Range,
         };
-        let mut source = SureSource::new(second_version(alloc, &IMAGE, words, 64)?);
+        let mut source = SureSource::new(second_version(alloc, image(), words, 64)?);
         assert_eq!(rt; read_head(alloc, &mut source), Err(want), "of {words}");
     }
     Ok(())
@@ -121,11 +133,7 @@ fn other_numbers_of_codewords_are_refused(rt: HostRuntime) -> Result<(), Fail> {
 #[test]
 fn weak_and_bad_blocks_are_read(rt: HostRuntime) -> Result<(), Fail> {
     let alloc = rt.alloc();
-    let mut few_rows = IMAGE;
-    few_rows[24] = 4;
-    let lists = [
-        2, 0, 0, 0, 2, 0, 7, 0, 0, 0, 0, 2, 1, 0, 0, 0, 0, 1, 1, 0, 0, 0, 3, 0, 1,
-    ];
+    let few_rows = image_of_few_rows(alloc)?;
     let weak = vec![in alloc;
         Weak {
             channel: 0,
@@ -142,7 +150,7 @@ fn weak_and_bad_blocks_are_read(rt: HostRuntime) -> Result<(), Fail> {
     ]?;
     let shape = shape_with(1, 64, 4)?;
     let want = head_with(alloc, shape, weak, vec![in alloc; (0, 3)]?, true, 113)?;
-    let mut source = SureSource::new(image_with(alloc, &few_rows, 88, &lists)?);
+    let mut source = SureSource::new(image_with(alloc, &few_rows, 88, lists())?);
     assert_eq!(rt; read_head(alloc, &mut source), Ok(want));
     Ok(())
 }
@@ -150,7 +158,10 @@ fn weak_and_bad_blocks_are_read(rt: HostRuntime) -> Result<(), Fail> {
 #[test]
 fn a_short_head_ends_at_its_length(rt: HostRuntime) -> Result<(), Fail> {
     let alloc = rt.alloc();
-    for image in [IMAGE.to_vec(alloc)?, second_version(alloc, &IMAGE, 1, 64)?] {
+    for image in [
+        image().to_vec(alloc)?,
+        second_version(alloc, image(), 1, 64)?,
+    ] {
         for n in 0..image.len() {
             let want = ReadStop::Fault {
                 at: n as u64,
@@ -163,12 +174,9 @@ fn a_short_head_ends_at_its_length(rt: HostRuntime) -> Result<(), Fail> {
     Ok(())
 }
 
-#[test]
-fn first_faults_are_named(rt: HostRuntime) -> Result<(), Fail> {
-    let alloc = rt.alloc();
-    let mut few_rows = IMAGE;
-    few_rows[24] = 4;
-    let cases: [(usize, &[u8], u64, ImageFault); 19] = [
+// Bytes in place of others from a place on, and the first fault and its place.
+fn first_faults() -> [(u8, &'static [u8], u8, ImageFault); 10] {
+    [
         (0, &[0x54], 0, ImageFault::Magic),
         (7, &[0x33], 0, ImageFault::Magic),
         (8, &[0], 8, ImageFault::Range),
@@ -179,6 +187,12 @@ fn first_faults_are_named(rt: HostRuntime) -> Result<(), Fail> {
         (60, &[1, 0], 60, ImageFault::Diagonal),
         (58, &[0xff, 0xff], 58, ImageFault::Parity),
         (92, &[2], 92, ImageFault::Range),
+    ]
+}
+
+// The same of the weak and bad blocks, which begin at place 88.
+fn first_faults_in_lists() -> [(u8, &'static [u8], u8, ImageFault); 9] {
+    [
         (88, &[1, 0, 0, 3, 0, 0, 7, 0, 0, 0], 91, ImageFault::Range),
         (88, &[1, 0, 0, 0, 4, 0, 7, 0, 0, 0], 92, ImageFault::Range),
         (
@@ -213,33 +227,51 @@ fn first_faults_are_named(rt: HostRuntime) -> Result<(), Fail> {
             ImageFault::Range,
         ),
         (88, &[0, 0, 0, 0, 2], 92, ImageFault::Range),
-    ];
+    ]
+}
+
+// What a read of these bytes answers where it fails, and nothing where it passes.
+fn stop_of(alloc: Global, bytes: Vec<u8>) -> Option<ReadStop<ImageFault>> {
+    read_head(alloc, &mut SureSource::new(bytes)).err()
+}
+
+// Behind the text at its front each field stands one place later in the second version.
+fn name_first_faults<R: Abort>(
+    rt: &R,
+    alloc: Global,
+    cases: &[(u8, &'static [u8], u8, ImageFault)],
+) -> Result<(), Fail> {
+    let few_rows = image_of_few_rows(alloc)?;
     let second = second_version(alloc, &few_rows, 1, 64)?;
     for (from, others, at, fault) in cases {
-        let mut source = SureSource::new(image_with(alloc, &few_rows, from, others)?);
-        let want = ReadStop::Fault { at, fault };
-        assert_eq!(rt; read_head(alloc, &mut source), Err(want), "from {from}");
-        // Behind the text each field stands one place later in the second version.
+        let (from, at, fault) = (*from, *at as u64, *fault);
         let later = if from < 8 { 0 } else { 1 };
-        let bytes = image_with(alloc, &second, from + later, others)?;
-        let want = ReadStop::Fault {
-            at: at + later as u64,
-            fault,
-        };
-        assert_eq!(rt;
-            read_head(alloc, &mut SureSource::new(bytes)),
-            Err(want),
-            "from {from}"
-        );
+        let bytes = image_with(alloc, &few_rows, from as usize, others)?;
+        let want = Some(ReadStop::Fault { at, fault });
+        assert_eq!(rt; stop_of(alloc, bytes), want, "from {from}");
+        let bytes = image_with(alloc, &second, from as usize + later, others)?;
+        let at = at + later as u64;
+        let want = Some(ReadStop::Fault { at, fault });
+        assert_eq!(rt; stop_of(alloc, bytes), want, "from {from}");
     }
     Ok(())
+}
+
+#[test]
+fn first_faults_are_named(rt: HostRuntime) -> Result<(), Fail> {
+    name_first_faults(&rt, rt.alloc(), &first_faults())
+}
+
+#[test]
+fn first_faults_in_lists_are_named(rt: HostRuntime) -> Result<(), Fail> {
+    name_first_faults(&rt, rt.alloc(), &first_faults_in_lists())
 }
 
 // The first bad superblock leaves no room for 8 rows.
 #[test]
 fn rows_that_no_longer_fit_are_refused(rt: HostRuntime) -> Result<(), Fail> {
     let alloc = rt.alloc();
-    let bytes = image_with(alloc, &IMAGE, 88, &[0, 0, 1, 0, 0, 0, 0, 0])?;
+    let bytes = image_with(alloc, image(), 88, &[0, 0, 1, 0, 0, 0, 0, 0])?;
     let want = ReadStop::Fault {
         at: 92,
         fault: ImageFault::Range,
@@ -252,7 +284,7 @@ fn rows_that_no_longer_fit_are_refused(rt: HostRuntime) -> Result<(), Fail> {
 fn a_failed_read_is_answered(rt: HostRuntime) -> Result<(), Fail> {
     let alloc = rt.alloc();
     for call in [1, 2, 24] {
-        let mut source = MemSource::new(IMAGE.to_vec(alloc)?, vec![in alloc; call]?);
+        let mut source = MemSource::new(image().to_vec(alloc)?, vec![in alloc; call]?);
         assert_eq!(rt; read_head(alloc, &mut source), Err(ReadStop::ReadFault));
     }
     Ok(())
@@ -262,11 +294,7 @@ fn a_failed_read_is_answered(rt: HostRuntime) -> Result<(), Fail> {
 #[test]
 fn a_head_is_written_in_the_second_version(rt: HostRuntime) -> Result<(), Fail> {
     let alloc = rt.alloc();
-    let mut few_rows = IMAGE;
-    few_rows[24] = 4;
-    let lists = [
-        2, 0, 0, 0, 2, 0, 7, 0, 0, 0, 0, 2, 1, 0, 0, 0, 0, 1, 1, 0, 0, 0, 3, 0, 1,
-    ];
+    let few_rows = image_of_few_rows(alloc)?;
     for (room, call, want, written) in [
         (120, 0, Ok(()), 114),
         (114, 0, Ok(()), 114),
@@ -274,7 +302,7 @@ fn a_head_is_written_in_the_second_version(rt: HostRuntime) -> Result<(), Fail> 
         (0, 0, Err(Failed), 0),
         (120, 3, Err(Failed), 49),
     ] {
-        let bytes = image_with(alloc, &few_rows, 88, &lists)?;
+        let bytes = image_with(alloc, &few_rows, 88, lists())?;
         let second = second_version(alloc, &bytes, 1, 64)?;
         let mut sink = MemSink::new(alloc, vec![in alloc; call]?, room)?;
         let head = read_head(alloc, &mut SureSource::new(bytes));
@@ -292,7 +320,7 @@ fn a_head_is_written_in_the_second_version(rt: HostRuntime) -> Result<(), Fail> 
 fn what_was_written_is_read_again(rt: HostRuntime) -> Result<(), Fail> {
     let alloc = rt.alloc();
     for (words, lifting) in [(1, 64), (2, 32), (4, 16)] {
-        let image = second_version(alloc, &IMAGE, words, lifting)?;
+        let image = second_version(alloc, image(), words, lifting)?;
         let mut sink = MemSink::new(alloc, Vec::new(alloc), 94)?;
         let head = read_head(alloc, &mut SureSource::new(image.clone()?));
         assert!(rt; head.is_ok());

@@ -1,23 +1,37 @@
+ghost use Rattle.onfi_cmd.specs.Cycles.{HasNoOtherBytes, HasRowInRange};
+
 use super::Cycle::{Address, Byte, Command};
 use super::*;
 use ssd_geo::Shape;
+use std::alloc::Global;
 use std::test::Fail;
+
+const ZERO: Cycle = Address(0);
+
+const BYTE: Cycle = Byte(0);
+
+// What cycles spell, where they are few.
+fn spelled(cycles: &[Cycle]) -> Option<Result<Op, CycleFault>> {
+    if cycles.len() > 10 {
+        return None;
+    }
+    Some(op_of(cycles))
+}
+
+// Whether an operation has these cycles, and they spell it.
+fn is_spelled(alloc: Global, op: Op, bytes: &[u8], cycles: &[Cycle]) -> Result<bool, Fail>
+    requires row { HasRowInRange op }
+    requires data_bytes { HasNoOtherBytes op bytes.now }
+{
+    let mut out = Vec::new(alloc);
+    cycles_into(op, bytes, &mut out).ok().ok_or("memory")?;
+    Ok(out.as_slice() == cycles && spelled(cycles) == Some(Ok(op)))
+}
 
 // Each operation and its cycles, written out by hand from the table of the profile.
 #[test]
-fn operations_and_cycles_match(rt: HostRuntime) -> Result<(), Fail> {
-    let mut out = Vec::new(rt.alloc());
-    cycles_into(
-        Op::Read {
-            column: 0x0201,
-            row: 0x05_0403,
-        },
-        &[],
-        &mut out,
-    )
-    .ok()
-    .ok_or("memory")?;
-    let read = [
+fn a_read_and_its_cycles_match(rt: HostRuntime) -> Result<(), Fail> {
+    let cycles = [
         Command(0x00),
         Address(0x01),
         Address(0x02),
@@ -26,74 +40,58 @@ fn operations_and_cycles_match(rt: HostRuntime) -> Result<(), Fail> {
         Address(0x05),
         Command(0x30),
     ];
-    assert_eq!(rt; out.as_slice(), read.as_slice());
-    assert_eq!(rt;
-        op_of(&read),
-        Ok(Op::Read {
-            column: 0x0201,
-            row: 0x05_0403
-        })
-    );
-    cycles_into(
-        Op::Program {
-            column: 0,
-            row: 0x53,
-        },
-        &[7, 8],
-        &mut out,
-    )
-    .ok()
-    .ok_or("memory")?;
-    let program = [
+    let op = Op::Read {
+        column: 0x0201,
+        row: 0x05_0403,
+    };
+    assert!(rt; is_spelled(rt.alloc(), op, &[], &cycles)?);
+    Ok(())
+}
+
+#[test]
+fn a_program_and_its_cycles_match(rt: HostRuntime) -> Result<(), Fail> {
+    let cycles = [
         Command(0x80),
-        Address(0),
-        Address(0),
+        ZERO,
+        ZERO,
         Address(0x53),
-        Address(0),
-        Address(0),
+        ZERO,
+        ZERO,
         Byte(7),
         Byte(8),
         Command(0x10),
     ];
-    assert_eq!(rt; out.as_slice(), program.as_slice());
-    assert_eq!(rt;
-        op_of(&program),
-        Ok(Op::Program {
-            column: 0,
-            row: 0x53
-        })
-    );
-    cycles_into(Op::Erase { row: 0x53 }, &[], &mut out)
-        .ok()
-        .ok_or("memory")?;
-    let erase = [
-        Command(0x60),
-        Address(0x53),
-        Address(0),
-        Address(0),
-        Command(0xd0),
-    ];
-    assert_eq!(rt; out.as_slice(), erase.as_slice());
-    assert_eq!(rt; op_of(&erase), Ok(Op::Erase { row: 0x53 }));
-    cycles_into(Op::Status, &[], &mut out).ok().ok_or("memory")?;
-    assert_eq!(rt; out.as_slice(), [Command(0x70)].as_slice());
-    assert_eq!(rt; op_of(&[Command(0x70)]), Ok(Op::Status));
-    cycles_into(Op::Reset, &[], &mut out).ok().ok_or("memory")?;
-    assert_eq!(rt; out.as_slice(), [Command(0xff)].as_slice());
-    assert_eq!(rt; op_of(&[Command(0xff)]), Ok(Op::Reset));
+    let op = Op::Program {
+        column: 0,
+        row: 0x53,
+    };
+    assert!(rt; is_spelled(rt.alloc(), op, &[7, 8], &cycles)?);
+    Ok(())
+}
+
+#[test]
+fn an_erase_and_its_cycles_match(rt: HostRuntime) -> Result<(), Fail> {
+    let cycles = [Command(0x60), Address(0x53), ZERO, ZERO, Command(0xd0)];
+    let op = Op::Erase { row: 0x53 };
+    assert!(rt; is_spelled(rt.alloc(), op, &[], &cycles)?);
+    Ok(())
+}
+
+#[test]
+fn short_operations_and_their_cycles_match(rt: HostRuntime) -> Result<(), Fail> {
+    let alloc = rt.alloc();
+    assert!(rt; is_spelled(alloc, Op::Status, &[], &[Command(0x70)])?);
+    assert!(rt; is_spelled(alloc, Op::Reset, &[], &[Command(0xff)])?);
+    let get = Op::GetFeatures { address: 0x89 };
+    assert!(rt; is_spelled(alloc, get, &[], &[Command(0xee), Address(0x89)])?);
+    Ok(())
+}
+
+#[test]
+fn a_read_level_that_is_set_and_its_cycles_match(rt: HostRuntime) -> Result<(), Fail> {
     let params = level_params(-3);
     assert_eq!(rt; params, [0xfd, 0xff, 0, 0]);
-    cycles_into(
-        Op::SetFeatures {
-            address: 0x89,
-            params,
-        },
-        &[],
-        &mut out,
-    )
-    .ok()
-    .ok_or("memory")?;
-    let set = [
+    let cycles = [
         Command(0xef),
         Address(0x89),
         Byte(0xfd),
@@ -101,169 +99,182 @@ fn operations_and_cycles_match(rt: HostRuntime) -> Result<(), Fail> {
         Byte(0),
         Byte(0),
     ];
-    assert_eq!(rt; out.as_slice(), set.as_slice());
-    assert_eq!(rt;
-        op_of(&set),
-        Ok(Op::SetFeatures {
-            address: 0x89,
-            params
-        })
-    );
-    cycles_into(Op::GetFeatures { address: 0x89 }, &[], &mut out)
-        .ok()
-        .ok_or("memory")?;
-    let get = [Command(0xee), Address(0x89)];
-    assert_eq!(rt; out.as_slice(), get.as_slice());
-    assert_eq!(rt; op_of(&get), Ok(Op::GetFeatures { address: 0x89 }));
+    let op = Op::SetFeatures {
+        address: 0x89,
+        params,
+    };
+    assert!(rt; is_spelled(rt.alloc(), op, &[], &cycles)?);
     Ok(())
 }
 
-#[test]
-fn the_first_fault_is_named(rt: HostRuntime) {
-    let read = [
-        Command(0x00),
-        Address(0),
-        Address(0),
-        Address(0x53),
-        Address(0),
-        Address(0),
-        Command(0x30),
-    ];
-    // Each shorter read ends too early.
-    for end in 0..7usize {
-        assert_eq!(rt;
-            op_of(&read[..end]),
-            Err(CycleFault::Short { at: end as u32 }),
-            "of {end}"
-        );
-    }
-    let cases: [(&[Cycle], CycleFault); 16] = [
+// Cycles and the first fault in them.
+fn first_faults() -> [(&'static [Cycle], CycleFault); 10] {
+    [
         (&[Address(0x00)], CycleFault::Wrong { at: 0 }),
         (&[Byte(0x70)], CycleFault::Wrong { at: 0 }),
         (&[Command(0x01)], CycleFault::Unknown { byte: 0x01 }),
-        (
-            &[Command(0x30), Address(0)],
-            CycleFault::Unknown { byte: 0x30 },
-        ),
+        (&[Command(0x30), ZERO], CycleFault::Unknown { byte: 0x30 }),
         (&[Command(0x70), Command(0x70)], CycleFault::Extra { at: 1 }),
-        (&[Command(0xff), Address(0)], CycleFault::Extra { at: 1 }),
-        (&[Command(0x00), Byte(0)], CycleFault::Wrong { at: 1 }),
+        (&[Command(0xff), ZERO], CycleFault::Extra { at: 1 }),
+        (&[Command(0x00), BYTE], CycleFault::Wrong { at: 1 }),
+        (&[Command(0xee)], CycleFault::Short { at: 1 }),
+        (&[], CycleFault::Short { at: 0 }),
         (
-            &[Command(0x60), Address(1), Address(2), Command(0xd0)],
+            &[Command(0x00), ZERO, ZERO, ZERO, ZERO, ZERO],
+            CycleFault::Short { at: 6 },
+        ),
+    ]
+}
+
+// The same of erases and features.
+fn first_faults_behind_addresses() -> [(&'static [Cycle], CycleFault); 7] {
+    [
+        (
+            &[Command(0x60), ZERO, ZERO, Command(0xd0)],
             CycleFault::Wrong { at: 3 },
         ),
         (
-            &[
-                Command(0x60),
-                Address(1),
-                Address(2),
-                Address(3),
-                Command(0x30),
-            ],
+            &[Command(0x60), ZERO, ZERO, ZERO, Command(0x30)],
             CycleFault::Wrong { at: 4 },
         ),
         (
-            &[
-                Command(0x60),
-                Address(1),
-                Address(2),
-                Address(3),
-                Command(0xd0),
-                Byte(0),
-            ],
+            &[Command(0x60), ZERO, ZERO, ZERO, Command(0xd0), BYTE],
             CycleFault::Extra { at: 5 },
         ),
         (
-            &[Command(0xef), Address(0x7f), Byte(0)],
+            &[Command(0xef), Address(0x7f), BYTE],
             CycleFault::Wrong { at: 1 },
         ),
         (
-            &[Command(0xef), Address(0x89), Byte(0), Byte(0), Byte(0)],
+            &[Command(0xef), Address(0x89), BYTE, BYTE, BYTE],
             CycleFault::Short { at: 5 },
         ),
         (&[Command(0xee), Address(0x7f)], CycleFault::Wrong { at: 1 }),
         (
-            &[Command(0xee), Address(0x80), Byte(0)],
+            &[Command(0xee), Address(0x80), BYTE],
             CycleFault::Extra { at: 2 },
         ),
-        (&[Command(0xee)], CycleFault::Short { at: 1 }),
-        (&[], CycleFault::Short { at: 0 }),
-    ];
-    for (cycles, want) in cases {
-        assert_eq!(rt; op_of(cycles), Err(want), "{cycles:?}");
+    ]
+}
+
+// A program without a data byte, with an address among its data, and with a cycle after its end.
+fn first_faults_of_programs() -> [(&'static [Cycle], CycleFault); 6] {
+    [
+        (
+            &[Command(0x80), ZERO, ZERO, ZERO, ZERO, ZERO],
+            CycleFault::Short { at: 6 },
+        ),
+        (
+            &[Command(0x80), ZERO, ZERO, ZERO, ZERO, ZERO, Command(0x10)],
+            CycleFault::Wrong { at: 6 },
+        ),
+        (
+            &[Command(0x80), ZERO, ZERO, ZERO, ZERO, ZERO, BYTE],
+            CycleFault::Short { at: 7 },
+        ),
+        (
+            &[Command(0x80), ZERO, ZERO, ZERO, ZERO, ZERO, BYTE, ZERO],
+            CycleFault::Wrong { at: 7 },
+        ),
+        (
+            &[
+                Command(0x80),
+                ZERO,
+                ZERO,
+                ZERO,
+                ZERO,
+                ZERO,
+                BYTE,
+                Command(0x30),
+            ],
+            CycleFault::Wrong { at: 7 },
+        ),
+        (
+            &[
+                Command(0x80),
+                ZERO,
+                ZERO,
+                ZERO,
+                ZERO,
+                ZERO,
+                BYTE,
+                Command(0x10),
+                BYTE,
+            ],
+            CycleFault::Extra { at: 8 },
+        ),
+    ]
+}
+
+// The first cycles that have another first fault.
+fn first_other(cases: &[(&'static [Cycle], CycleFault)]) -> Option<&'static [Cycle]> {
+    for (cycles, fault) in cases {
+        if spelled(cycles) != Some(Err(*fault)) {
+            return Some(*cycles);
+        }
     }
-    // A program without a data byte, with an address among its data, and with a cycle after its end.
-    let head = [
-        Command(0x80),
-        Address(0),
-        Address(0),
-        Address(0),
-        Address(0),
-        Address(0),
-    ];
-    let [a, b, c, d, e, f] = head;
-    assert_eq!(rt; op_of(&head), Err(CycleFault::Short { at: 6 }));
-    assert_eq!(rt;
-        op_of(&[a, b, c, d, e, f, Command(0x10)]),
-        Err(CycleFault::Wrong { at: 6 })
-    );
-    assert_eq!(rt;
-        op_of(&[a, b, c, d, e, f, Byte(1)]),
-        Err(CycleFault::Short { at: 7 })
-    );
-    assert_eq!(rt;
-        op_of(&[a, b, c, d, e, f, Byte(1), Address(1)]),
-        Err(CycleFault::Wrong { at: 7 })
-    );
-    assert_eq!(rt;
-        op_of(&[a, b, c, d, e, f, Byte(1), Command(0x30)]),
-        Err(CycleFault::Wrong { at: 7 })
-    );
-    assert_eq!(rt;
-        op_of(&[a, b, c, d, e, f, Byte(1), Command(0x10), Byte(1)]),
-        Err(CycleFault::Extra { at: 8 })
-    );
+    None
+}
+
+#[test]
+fn the_first_fault_is_named(rt: HostRuntime) {
+    assert!(rt; first_other(&first_faults()).is_none());
+    assert!(rt; first_other(&first_faults_behind_addresses()).is_none());
+    assert!(rt; first_other(&first_faults_of_programs()).is_none());
+}
+
+fn operations() -> [&'static [Cycle]; 7] {
+    [
+        &[Command(0x00), ZERO, ZERO, ZERO, ZERO, ZERO, Command(0x30)],
+        &[
+            Command(0x80),
+            ZERO,
+            ZERO,
+            ZERO,
+            ZERO,
+            ZERO,
+            BYTE,
+            BYTE,
+            Command(0x10),
+        ],
+        &[Command(0x60), ZERO, ZERO, ZERO, Command(0xd0)],
+        &[Command(0x70)],
+        &[Command(0xff)],
+        &[Command(0xef), Address(0x89), BYTE, BYTE, BYTE, BYTE],
+        &[Command(0xee), Address(0x89)],
+    ]
+}
+
+// Cycles with one more behind them, or with an address in the place of a cycle and a byte in that of an address.
+fn changed(alloc: Global, cycles: &[Cycle], at: usize) -> Result<Vec<Cycle>, Fail> {
+    let mut changed = Vec::new(alloc);
+    for (place, cycle) in cycles.iter().enumerate() {
+        let other = if let Address(_) = cycle { BYTE } else { ZERO };
+        changed.push(if place == at { other } else { *cycle })?;
+    }
+    if at >= cycles.len() {
+        changed.push(ZERO)?;
+    }
+    Ok(changed)
 }
 
 // Each operation ends too early before each of its cycles, has a wrong cycle at each place, and one after its end.
 #[test]
 fn a_fault_is_named_at_each_place(rt: HostRuntime) -> Result<(), Fail> {
-    let [zero, byte] = [Address(0), Byte(0)];
-    let operations: [&[Cycle]; 7] = [
-        &[Command(0x00), zero, zero, zero, zero, zero, Command(0x30)],
-        &[
-            Command(0x80),
-            zero,
-            zero,
-            zero,
-            zero,
-            zero,
-            byte,
-            byte,
-            Command(0x10),
-        ],
-        &[Command(0x60), zero, zero, zero, Command(0xd0)],
-        &[Command(0x70)],
-        &[Command(0xff)],
-        &[Command(0xef), Address(0x89), byte, byte, byte, byte],
-        &[Command(0xee), Address(0x89)],
-    ];
-    for cycles in operations {
+    for cycles in operations() {
         assert!(rt; cycles.len() < 10);
         for at in 0..cycles.len() {
-            let mut changed = Vec::from_slice(rt.alloc(), cycles).ok().ok_or("memory")?;
-            changed[at] = match cycles[at] {
-                Address(_) => byte,
-                _ => zero,
-            };
             let place = at as u32;
-            assert_eq!(rt; op_of(&cycles[..at]), Err(CycleFault::Short { at: place }));
-            assert_eq!(rt; op_of(&changed), Err(CycleFault::Wrong { at: place }));
+            let wrong = changed(rt.alloc(), cycles, at)?;
+            assert_eq!(rt;
+                spelled(&cycles[..at]),
+                Some(Err(CycleFault::Short { at: place }))
+            );
+            assert_eq!(rt; spelled(&wrong), Some(Err(CycleFault::Wrong { at: place })));
         }
-        let mut longer = Vec::from_slice(rt.alloc(), cycles).ok().ok_or("memory")?;
-        longer.push(zero).ok().ok_or("memory")?;
         let at = cycles.len() as u32;
-        assert_eq!(rt; op_of(&longer), Err(CycleFault::Extra { at }));
+        let longer = changed(rt.alloc(), cycles, cycles.len())?;
+        assert_eq!(rt; spelled(&longer), Some(Err(CycleFault::Extra { at })));
     }
     Ok(())
 }
