@@ -3,6 +3,7 @@ ghost use Rattle.std.specs.Prelude.{◌≡◌, ◌-◌, ◌≤◌, [], ◌∷◌
 ghost use Rattle.ssd_formats.specs.RunText.{is_hinted, taken_by};
 
 use super::*;
+use kinds::{each_entry, each_entry_text};
 use ssd_geo::{
     CallKind, CellLaw, Entry, ImageHead, Items, Kind, Place, RefreshReply, Reply, Row, Shape, Slot,
     Tag,
@@ -12,6 +13,7 @@ use std::alloc::Global;
 use std::process::Abort;
 use std::test::Fail;
 
+mod kinds;
 mod reading;
 
 // The head of an image with 1 channel, pages of 8 data bytes and the read levels 0 and -60.
@@ -44,14 +46,6 @@ fn at(call: u32, kind: Kind) -> Entry {
         kind,
     }
 }
-
-const SLOT: Slot = Slot { sb: 2, index: 11 };
-
-const PLACE: Place = Place {
-    die: 1,
-    sb: 2,
-    page: 10,
-};
 
 // One page is written and read.
 fn one_page(alloc: Global) -> Result<Vec<Items<Entry>>, Fail> {
@@ -98,15 +92,30 @@ fn one_page_replies(alloc: Global) -> Result<Vec<Items<Reply>>, Fail>
 }
 
 fn one_page_history() -> &'static [u8] {
-    b"channel 0 4\n0 0.0 write 5 0.0\n1 0.1 look 5 page 0.0 0 open\n2 0.1 sense 1 1.0.0 0\n3 0.1 leave 1\n"
+    b"channel 0 4\n\
+      0 0.0 write 5 0.0\n\
+      1 0.1 look 5 page 0.0 0 open\n\
+      2 0.1 sense 1 1.0.0 0\n\
+      3 0.1 leave 1\n"
 }
 
 fn one_page_answers() -> &'static [u8] {
-    b"actor 0 2\n0 ok\n1 data 0 0102000000000000\n"
+    b"actor 0 2\n\
+      0 ok\n\
+      1 data 0 0102000000000000\n"
 }
 
 fn one_page_summary() -> &'static [u8] {
-    b"summary\nwrite 1 0 0 0\nread 1 0 0 0\ntrim 0\nmove 0 condemn 0 changed 0 stay 0\npick 0 erase 0 bad 0 fault 0\nsense 1\nrung 1 0 0 0\nhint 0 0 0\nend\n"
+    b"summary\n\
+      write 1 0 0 0\n\
+      read 1 0 0 0\n\
+      trim 0\n\
+      move 0 condemn 0 changed 0 stay 0\n\
+      pick 0 erase 0 bad 0 fault 0\n\
+      sense 1\n\
+      rung 1 0 0 0\n\
+      hint 0 0 0\n\
+      end\n"
 }
 
 // What is printed, whole or from the summary on.
@@ -141,172 +150,6 @@ fn one_page_is_printed_whole_and_from_the_summary_on(rt: HostRuntime) -> Result<
         assert_eq!(rt; sink.bytes(), text.as_slice());
     }
     Ok(())
-}
-
-const PAGE: Row = Row::Page {
-    slot: SLOT,
-    serial: 1099511627776,
-};
-
-const BAD: Slot = Slot { sb: 3, index: 1 };
-
-// One entry of each kind, or two where its text has two forms.
-fn calls() -> [Kind; 10] {
-    [
-        Kind::Look {
-            row: 4,
-            found: PAGE,
-            closed: true,
-        },
-        Kind::Look {
-            row: 4,
-            found: PAGE,
-            closed: false,
-        },
-        Kind::Look {
-            row: 4,
-            found: Row::Empty,
-            closed: false,
-        },
-        Kind::Look {
-            row: 4,
-            found: Row::Lost,
-            closed: false,
-        },
-        Kind::Sense {
-            at: 3,
-            place: PLACE,
-            level: -60,
-        },
-        Kind::Leave { at: 3 },
-        Kind::Write { row: 0, slot: SLOT },
-        Kind::Trim { row: 12 },
-        Kind::Refused { row: 0, worn: true },
-        Kind::Refused {
-            row: 0,
-            worn: false,
-        },
-    ]
-}
-
-fn moves() -> [Kind; 8] {
-    [
-        Kind::Move { at: 13, slot: SLOT },
-        Kind::Changed { at: 4, found: PAGE },
-        Kind::Changed {
-            at: 4,
-            found: Row::Empty,
-        },
-        Kind::Changed {
-            at: 4,
-            found: Row::Lost,
-        },
-        Kind::Condemn { at: 9 },
-        Kind::Stay { at: 20, worn: true },
-        Kind::Stay {
-            at: 20,
-            worn: false,
-        },
-        Kind::FaultSense {
-            at: 1,
-            place: PLACE,
-            level: 0,
-        },
-    ]
-}
-
-fn blocks() -> [Kind; 9] {
-    [
-        Kind::Pick { sb: 0 },
-        Kind::Erase { sb: 255 },
-        Kind::BadWrite {
-            row: 0,
-            slot: BAD,
-            die: 0,
-            fault: false,
-        },
-        Kind::BadCopy {
-            at: 16,
-            slot: BAD,
-            die: 0,
-            fault: true,
-        },
-        Kind::BadErase {
-            sb: 1,
-            die: 2,
-            fault: false,
-        },
-        Kind::Age {
-            die: 1,
-            sb: 0,
-            amount: 150,
-        },
-        Kind::FaultAge {
-            die: 1,
-            sb: 0,
-            amount: 150,
-        },
-        Kind::Note {
-            free: 4,
-            victim: None,
-            live: 0,
-            pins: 0,
-            garbage: 0,
-        },
-        Kind::Note {
-            free: 1,
-            victim: Some(2),
-            live: 3,
-            pins: 4,
-            garbage: 5,
-        },
-    ]
-}
-
-fn listed(alloc: Global, kinds: &[Kind]) -> Result<Items<Entry>, Fail> {
-    let mut entries = Vec::new(alloc);
-    for kind in kinds {
-        entries.push(at(7, *kind))?;
-    }
-    Ok(Items::new(entries))
-}
-
-fn each_entry(alloc: Global) -> Result<Vec<Items<Entry>>, Fail> {
-    let (calls, moves, blocks) = (
-        listed(alloc, &calls())?,
-        listed(alloc, &moves())?,
-        listed(alloc, &blocks())?,
-    );
-    Ok(vec![in alloc; calls, moves, blocks]?)
-}
-
-fn calls_text() -> &'static [u8] {
-    b"channel 0 10\n0 0.7 look 4 page 2.11 1099511627776 closed\n1 0.7 look 4 page 2.11 1099511627776 open\n2 0.7 look 4 empty\n3 0.7 look 4 lost\n4 0.7 sense 3 1.2.10 -60\n5 0.7 leave 3\n6 0.7 write 0 2.11\n7 0.7 trim 12\n8 0.7 refused 0 readonly\n9 0.7 refused 0 full\n"
-}
-
-fn moves_text() -> &'static [u8] {
-    b"channel 1 8\n0 0.7 move 13 2.11\n1 0.7 changed 4 page 2.11 1099511627776\n2 0.7 changed 4 empty\n3 0.7 changed 4 lost\n4 0.7 condemn 9\n5 0.7 stay 20 readonly\n6 0.7 stay 20 noroom\n7 0.7 fault sense 1 1.2.10 0\n"
-}
-
-fn blocks_text() -> &'static [u8] {
-    b"channel 2 9\n0 0.7 pick 0\n1 0.7 erase 255\n2 0.7 bad write 0 3.1 0 fail\n3 0.7 bad copy 16 3.1 0 fault\n4 0.7 bad erase 1 2 fail\n5 0.7 age 1.0 150\n6 0.7 fault age 1.0 150\n7 0.7 note 4 - 0 0 0\n8 0.7 note 1 2 3 4 5\n"
-}
-
-fn each_entry_summary() -> &'static [u8] {
-    b"summary\nwrite 0 0 0 0\nread 0 0 0 0\ntrim 0\nmove 1 condemn 1 changed 3 stay 2\npick 1 erase 1 bad 3 fault 2\nsense 1\nrung 0 0 0 0\nhint 0 0 0\nend\n"
-}
-
-fn each_entry_history(alloc: Global) -> Result<Vec<u8>, Fail> {
-    let mut text = calls_text().to_vec(alloc)?;
-    text.extend_from_slice(moves_text())?;
-    text.extend_from_slice(blocks_text())?;
-    Ok(text)
-}
-
-fn each_entry_text(alloc: Global) -> Result<Vec<u8>, Fail> {
-    let mut text = each_entry_history(alloc)?;
-    text.extend_from_slice(each_entry_summary())?;
-    Ok(text)
 }
 
 #[test]
@@ -365,7 +208,22 @@ fn print_actor(
 }
 
 fn writes_text() -> &'static [u8] {
-    b"actor 0 5\n0 ok\n1 full\n2 readonly\n3 diefault.1\n4 ok\nsummary\nwrite 1 1 1 1\nread 0 0 0 0\ntrim 1\nmove 0 condemn 0 changed 0 stay 0\npick 0 erase 0 bad 0 fault 0\nsense 0\nrung 0 0 0 0\nhint 0 0 0\nend\n"
+    b"actor 0 5\n\
+      0 ok\n\
+      1 full\n\
+      2 readonly\n\
+      3 diefault.1\n\
+      4 ok\n\
+      summary\n\
+      write 1 1 1 1\n\
+      read 0 0 0 0\n\
+      trim 1\n\
+      move 0 condemn 0 changed 0 stay 0\n\
+      pick 0 erase 0 bad 0 fault 0\n\
+      sense 0\n\
+      rung 0 0 0 0\n\
+      hint 0 0 0\n\
+      end\n"
 }
 
 #[test]
@@ -386,7 +244,23 @@ fn replies_to_writes_and_trims_are_counted(rt: HostRuntime) -> Result<(), Fail> 
 }
 
 fn reads_text() -> &'static [u8] {
-    b"actor 0 6\n0 data 0 \n1 data 1 \n2 data 3 01ab\n3 empty\n4 uncorrectable\n5 diefault.2\nsummary\nwrite 0 0 0 0\nread 3 1 1 1\ntrim 0\nmove 0 condemn 0 changed 0 stay 0\npick 0 erase 0 bad 0 fault 0\nsense 0\nrung 1 1 0 1\nhint 1 1 0\nend\n"
+    b"actor 0 6\n\
+      0 data 0 \n\
+      1 data 1 \n\
+      2 data 3 01ab\n\
+      3 empty\n\
+      4 uncorrectable\n\
+      5 diefault.2\n\
+      summary\n\
+      write 0 0 0 0\n\
+      read 3 1 1 1\n\
+      trim 0\n\
+      move 0 condemn 0 changed 0 stay 0\n\
+      pick 0 erase 0 bad 0 fault 0\n\
+      sense 0\n\
+      rung 1 1 0 1\n\
+      hint 1 1 0\n\
+      end\n"
 }
 
 #[test]
@@ -416,7 +290,24 @@ fn replies_to_reads_are_counted_with_their_rungs(rt: HostRuntime) -> Result<(), 
 }
 
 fn refreshes_text() -> &'static [u8] {
-    b"actor 0 7\n0 moved\n1 changed\n2 noroom\n3 failed\n4 collected 0\n5 retired 17\n6 idle\nsummary\nwrite 0 0 0 0\nread 0 0 0 0\ntrim 0\nmove 0 condemn 0 changed 0 stay 0\npick 0 erase 0 bad 0 fault 0\nsense 0\nrung 0 0 0 0\nhint 0 0 0\nend\n"
+    b"actor 0 7\n\
+      0 moved\n\
+      1 changed\n\
+      2 noroom\n\
+      3 failed\n\
+      4 collected 0\n\
+      5 retired 17\n\
+      6 idle\n\
+      summary\n\
+      write 0 0 0 0\n\
+      read 0 0 0 0\n\
+      trim 0\n\
+      move 0 condemn 0 changed 0 stay 0\n\
+      pick 0 erase 0 bad 0 fault 0\n\
+      sense 0\n\
+      rung 0 0 0 0\n\
+      hint 0 0 0\n\
+      end\n"
 }
 
 #[test]
@@ -441,7 +332,21 @@ fn replies_to_refreshes_and_collects_have_their_lines(rt: HostRuntime) -> Result
 }
 
 fn drains_text() -> &'static [u8] {
-    b"actor 0 4\n0 data 1 \n1 data 2 \n2 drained 0\n3 drained 2 0=moved 12=diefault.2\nsummary\nwrite 0 0 0 0\nread 2 0 0 0\ntrim 0\nmove 0 condemn 0 changed 0 stay 0\npick 0 erase 0 bad 0 fault 0\nsense 0\nrung 0 1 1 0\nhint 2 0 2\nend\n"
+    b"actor 0 4\n\
+      0 data 1 \n\
+      1 data 2 \n\
+      2 drained 0\n\
+      3 drained 2 0=moved 12=diefault.2\n\
+      summary\n\
+      write 0 0 0 0\n\
+      read 2 0 0 0\n\
+      trim 0\n\
+      move 0 condemn 0 changed 0 stay 0\n\
+      pick 0 erase 0 bad 0 fault 0\n\
+      sense 0\n\
+      rung 0 1 1 0\n\
+      hint 2 0 2\n\
+      end\n"
 }
 
 #[test]

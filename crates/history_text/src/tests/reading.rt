@@ -1,5 +1,6 @@
 //! Histories read back from texts that were written by hand.
-use super::{each_entry, each_entry_history, one_page, one_page_history, one_page_text};
+use super::kinds::{each_entry, each_entry_history};
+use super::{one_page, one_page_history, one_page_text};
 use crate::{HistoryFault, read_history};
 use ssd_geo::{CellLaw, ImageHead, Items, Shape};
 use std::alloc::Global;
