@@ -87,16 +87,36 @@ fn image_with(alloc: Global, image: &[u8], at: usize, others: &[u8]) -> Result<V
     Ok(bytes)
 }
 
+// Whether a head is read from these bytes and a 7 behind them, and the 7 is left.
+fn is_read(alloc: Global, bytes: &[u8], want: &ImageHead) -> Result<bool, Fail> {
+    let mut source = SureSource::new(image_with(alloc, bytes, bytes.len(), &[7])?);
+    let Ok(head) = read_head(alloc, &mut source) else {
+        return Ok(false);
+    };
+    let mut next = [0; 2];
+    let left = source.read(&mut next) == Ok(1) && next == [7, 0];
+    Ok(left && head == *want)
+}
+
+// Why no head is read, or nothing where one is.
+fn stop_of<S: Source>(alloc: Global, source: &mut S) -> Option<ReadStop<ImageFault>> {
+    read_head(alloc, source).err()
+}
+
+// The first fault in these bytes and its place, or nothing where there is none.
+fn fault_of(alloc: Global, bytes: Vec<u8>) -> Option<(u64, ImageFault)> {
+    match stop_of(alloc, &mut SureSource::new(bytes)) {
+        Some(ReadStop::Fault { at, fault }) => Some((at, fault)),
+        _ => None,
+    }
+}
+
 #[test]
 fn a_head_is_read_and_what_follows_is_left(rt: HostRuntime) -> Result<(), Fail> {
     let alloc = rt.alloc();
-    let mut source = SureSource::new(image_with(alloc, image(), 93, &[7])?);
     let shape = shape_with(1, 64, 8)?;
     let want = head_with(alloc, shape, Vec::new(alloc), Vec::new(alloc), false, 93)?;
-    assert_eq!(rt; read_head(alloc, &mut source), Ok(want));
-    let mut next = [0; 2];
-    assert_eq!(rt; source.read(&mut next), Ok(1));
-    assert_eq!(rt; next, [7, 0]);
+    assert!(rt; is_read(alloc, image(), &want)?);
     Ok(())
 }
 
@@ -105,13 +125,9 @@ fn a_head_of_the_second_version_is_read(rt: HostRuntime) -> Result<(), Fail> {
     let alloc = rt.alloc();
     for (words, lifting) in [(1, 64), (2, 32), (4, 16)] {
         let image = second_version(alloc, image(), words, lifting)?;
-        let mut source = SureSource::new(image_with(alloc, &image, 94, &[7])?);
         let shape = shape_with(words, lifting as u16, 8)?;
         let want = head_with(alloc, shape, Vec::new(alloc), Vec::new(alloc), false, 94)?;
-        assert_eq!(rt; read_head(alloc, &mut source), Ok(want));
-        let mut next = [0; 2];
-        assert_eq!(rt; source.read(&mut next), Ok(1));
-        assert_eq!(rt; next, [7, 0]);
+        assert!(rt; is_read(alloc, &image, &want)?, "of {words}");
     }
     Ok(())
 }
@@ -120,12 +136,9 @@ fn a_head_of_the_second_version_is_read(rt: HostRuntime) -> Result<(), Fail> {
 fn other_numbers_of_codewords_are_refused(rt: HostRuntime) -> Result<(), Fail> {
     let alloc = rt.alloc();
     for words in [0, 3, 5, 255] {
-        let want = ReadStop::Fault {
-            at: 8,
-            fault: ImageFault::Range,
-        };
-        let mut source = SureSource::new(second_version(alloc, image(), words, 64)?);
-        assert_eq!(rt; read_head(alloc, &mut source), Err(want), "of {words}");
+        let bytes = second_version(alloc, image(), words, 64)?;
+        let fault = fault_of(alloc, bytes);
+        assert_eq!(rt; fault, Some((8, ImageFault::Range)), "of {words}");
     }
     Ok(())
 }
@@ -150,8 +163,8 @@ fn weak_and_bad_blocks_are_read(rt: HostRuntime) -> Result<(), Fail> {
     ]?;
     let shape = shape_with(1, 64, 4)?;
     let want = head_with(alloc, shape, weak, vec![in alloc; (0, 3)]?, true, 113)?;
-    let mut source = SureSource::new(image_with(alloc, &few_rows, 88, lists())?);
-    assert_eq!(rt; read_head(alloc, &mut source), Ok(want));
+    let image = image_with(alloc, &few_rows, 88, lists())?;
+    assert!(rt; is_read(alloc, &image, &want)?);
     Ok(())
 }
 
@@ -163,12 +176,8 @@ fn a_short_head_ends_at_its_length(rt: HostRuntime) -> Result<(), Fail> {
         second_version(alloc, image(), 1, 64)?,
     ] {
         for n in 0..image.len() {
-            let want = ReadStop::Fault {
-                at: n as u64,
-                fault: ImageFault::Short,
-            };
-            let mut source = SureSource::new(image[..n].to_vec(alloc)?);
-            assert_eq!(rt; read_head(alloc, &mut source), Err(want));
+            let fault = fault_of(alloc, image[..n].to_vec(alloc)?);
+            assert_eq!(rt; fault, Some((n as u64, ImageFault::Short)));
         }
     }
     Ok(())
@@ -230,11 +239,6 @@ fn first_faults_in_lists() -> [(u8, &'static [u8], u8, ImageFault); 9] {
     ]
 }
 
-// What a read of these bytes answers where it fails, and nothing where it passes.
-fn stop_of(alloc: Global, bytes: Vec<u8>) -> Option<ReadStop<ImageFault>> {
-    read_head(alloc, &mut SureSource::new(bytes)).err()
-}
-
 // Behind the text at its front each field stands one place later in the second version.
 fn name_first_faults<R: Abort>(
     rt: &R,
@@ -247,12 +251,10 @@ fn name_first_faults<R: Abort>(
         let (from, at, fault) = (*from, *at as u64, *fault);
         let later = if from < 8 { 0 } else { 1 };
         let bytes = image_with(alloc, &few_rows, from as usize, others)?;
-        let want = Some(ReadStop::Fault { at, fault });
-        assert_eq!(rt; stop_of(alloc, bytes), want, "from {from}");
+        assert_eq!(rt; fault_of(alloc, bytes), Some((at, fault)), "from {from}");
         let bytes = image_with(alloc, &second, from as usize + later, others)?;
         let at = at + later as u64;
-        let want = Some(ReadStop::Fault { at, fault });
-        assert_eq!(rt; stop_of(alloc, bytes), want, "from {from}");
+        assert_eq!(rt; fault_of(alloc, bytes), Some((at, fault)), "from {from}");
     }
     Ok(())
 }
@@ -272,11 +274,7 @@ fn first_faults_in_lists_are_named(rt: HostRuntime) -> Result<(), Fail> {
 fn rows_that_no_longer_fit_are_refused(rt: HostRuntime) -> Result<(), Fail> {
     let alloc = rt.alloc();
     let bytes = image_with(alloc, image(), 88, &[0, 0, 1, 0, 0, 0, 0, 0])?;
-    let want = ReadStop::Fault {
-        at: 92,
-        fault: ImageFault::Range,
-    };
-    assert_eq!(rt; read_head(alloc, &mut SureSource::new(bytes)), Err(want));
+    assert_eq!(rt; fault_of(alloc, bytes), Some((92, ImageFault::Range)));
     Ok(())
 }
 
@@ -285,9 +283,15 @@ fn a_failed_read_is_answered(rt: HostRuntime) -> Result<(), Fail> {
     let alloc = rt.alloc();
     for call in [1, 2, 24] {
         let mut source = MemSource::new(image().to_vec(alloc)?, vec![in alloc; call]?);
-        assert_eq!(rt; read_head(alloc, &mut source), Err(ReadStop::ReadFault));
+        assert_eq!(rt; stop_of(alloc, &mut source), Some(ReadStop::ReadFault));
     }
     Ok(())
+}
+
+// Writes the head that these bytes hold, or answers nothing where they hold none.
+fn rewritten(alloc: Global, bytes: Vec<u8>, sink: &mut MemSink) -> Option<Result<(), Failed>> {
+    let head = read_head(alloc, &mut SureSource::new(bytes)).ok()?;
+    Some(write_head(sink, &head))
 }
 
 // The sink has room for so many bytes, and one of its calls fails, counted from 1.
@@ -295,7 +299,7 @@ fn a_failed_read_is_answered(rt: HostRuntime) -> Result<(), Fail> {
 fn a_head_is_written_in_the_second_version(rt: HostRuntime) -> Result<(), Fail> {
     let alloc = rt.alloc();
     let few_rows = image_of_few_rows(alloc)?;
-    for (room, call, want, written) in [
+    for (room, call, want, length) in [
         (120, 0, Ok(()), 114),
         (114, 0, Ok(()), 114),
         (113, 0, Err(Failed), 113),
@@ -305,31 +309,25 @@ fn a_head_is_written_in_the_second_version(rt: HostRuntime) -> Result<(), Fail> 
         let bytes = image_with(alloc, &few_rows, 88, lists())?;
         let second = second_version(alloc, &bytes, 1, 64)?;
         let mut sink = MemSink::new(alloc, vec![in alloc; call]?, room)?;
-        let head = read_head(alloc, &mut SureSource::new(bytes));
-        assert!(rt; head.is_ok());
-        if let Ok(head) = head {
-            assert_eq!(rt; write_head(&mut sink, &head), want);
-        }
+        assert_eq!(rt; rewritten(alloc, bytes, &mut sink), Some(want));
         assert!(rt; second.starts_with(sink.bytes()));
-        assert_eq!(rt; sink.bytes().len(), written);
+        assert_eq!(rt; sink.bytes().len(), length);
     }
     Ok(())
 }
 
+// Heads of the second version are written as they were read, and so are read again.
 #[test]
 fn what_was_written_is_read_again(rt: HostRuntime) -> Result<(), Fail> {
     let alloc = rt.alloc();
     for (words, lifting) in [(1, 64), (2, 32), (4, 16)] {
         let image = second_version(alloc, image(), words, lifting)?;
         let mut sink = MemSink::new(alloc, Vec::new(alloc), 94)?;
-        let head = read_head(alloc, &mut SureSource::new(image.clone()?));
-        assert!(rt; head.is_ok());
-        if let Ok(head) = head {
-            assert_eq!(rt; write_head(&mut sink, &head), Ok(()));
-            assert_eq!(rt; sink.bytes(), &image[..]);
-            let mut source = SureSource::new(image_with(alloc, sink.bytes(), 94, &[7])?);
-            assert_eq!(rt; read_head(alloc, &mut source), Ok(head));
-        }
+        assert_eq!(rt; rewritten(alloc, image.clone()?, &mut sink), Some(Ok(())));
+        assert_eq!(rt; sink.bytes(), &image[..]);
+        let shape = shape_with(words, lifting as u16, 8)?;
+        let want = head_with(alloc, shape, Vec::new(alloc), Vec::new(alloc), false, 94)?;
+        assert!(rt; is_read(alloc, sink.bytes(), &want)?, "of {words}");
     }
     Ok(())
 }
