@@ -35,7 +35,7 @@ pub three_tried : (shape : Shape) (sum : List ℕ) (zeroth one two : DieState) �
 three_tried shape sum zeroth one two small h0 h1 h2 = record {
   tried = record {
     small = small;
-    unworn = λ die within. erases_blank _ (each_start shape zeroth one two h0 h1 h2 die within).told;
+    unworn = λ die within. erases_blank (die_at (zeroth ∷ one ∷ two ∷ []) die) (each_start shape zeroth one two h0 h1 h2 die within).told;
   };
-  unprogrammed = λ die within. pages_blank _ (each_start shape zeroth one two h0 h1 h2 die within).told;
+  unprogrammed = λ die within. pages_blank (die_at (zeroth ∷ one ∷ two ∷ []) die) (each_start shape zeroth one two h0 h1 h2 die within).told;
 }

@@ -1,5 +1,5 @@
 // Three dies with 4 blocks of 2 pages of 48 bytes, and calls that name blocks and pages of theirs.
-ghost use Rattle.std.specs.Prelude.{◌≡◌, ◌<◌, IfOk, is_some, true};
+ghost use Rattle.std.specs.Prelude.{◌≡◌, ◌<◌, IfOk, is_some, true, [], ◌∷◌};
 ghost use Rattle.ssd_geo.specs.StripeLaws.{IsPlace};
 ghost use Rattle.die_model.specs.Listed.{listed_state};
 ghost use Rattle.die_model.specs.SimState.{state_of};
@@ -9,7 +9,7 @@ use chan_dies::{Dies, EraseEnd, ProgramEnd};
 use die_model::{ListedFaults, SimDie};
 use onfi_cmd::{Die, DiePlan};
 use ssd_geo::{CellLaw, Items, Place, Shape, Slot, Weak};
-use std::alloc::Global;
+use std::alloc::{AllocError, Global};
 use std::test::Fail;
 
 // The words of the two slots of stripe 0, and their sum.
@@ -64,6 +64,17 @@ fn small_shape() -> Result<Shape, Fail>
     Ok(shape)
 }
 
+// Three dies, in order.
+fn listed<D: Die>(alloc: Global, zero: D, one: D, two: D) -> Result<Vec<D>, AllocError>
+    ensures { IfOk result (λ dies. dies.items ≡ zero ∷ one ∷ two ∷ []) }
+{
+    let mut dies = Vec::new(alloc);
+    dies.push(zero)?;
+    dies.push(one)?;
+    dies.push(two)?;
+    Ok(dies)
+}
+
 // The dies of a channel, blank but for the weak blocks.
 pub(crate) fn started<D: Die>(
     alloc: Global,
@@ -81,7 +92,7 @@ pub(crate) fn started<D: Die>(
     let zero = mounted(alloc, first, 0, shape, weak)?;
     let one = mounted(alloc, second, 1, shape, weak)?;
     let two = mounted(alloc, third, 2, shape, weak)?;
-    let dies = vec![in alloc; zero, one, two]?;
+    let dies = listed(alloc, zero, one, two)?;
     let sum = vec![in alloc; 0; 48]?;
     let Ok(held) = Dies::new(alloc, dies, shape, sum) else {
         return Err("no memory".into());
