@@ -1,6 +1,6 @@
 -- A program leaves erase counts as they are, and with a slot that isn't the last of its stripe all dies but that of the slot.
 use Rattle.std.proofs.Common.{◌≡◌, ℕ, ◌<◌, Bool, true, false, List, [], ◌∷◌, sym, subst, ap, ◌∙◌, refl, inl, inr, arith, lit<}
-use Rattle.std.specs.Prelude.{◌≢◌, ◌⊎◌, Option, ℤ}
+use Rattle.std.specs.Prelude.{◌≢◌, Option, ℤ}
 use Rattle.std.specs.Option.{unwrap_or}
 use Rattle.std.proofs.lemmas.Bool.{cases_eq}
 use Rattle.ssd_geo.specs.BlockCells.{BlockCells, cells_at}
@@ -135,18 +135,7 @@ stays_tried old new index word end did tried = record {
   unworn = λ die within. ended_keeps old.shape index word _ old.dies new.dies end did.dies die ∙ tried.unworn die within;
 }
 
--- the first slot of a superblock has its next page, where no page is programmed
-pub first_next : (held : DiesState) → AreTried held → AreUnprogrammed held →
-    HasNextPages held.shape (record { sb = 0; index = 0 }) held.dies
-first_next held tried blank = record {
-  of_slot = subst (λ (dies : ℕ). (place_of_slot dies first).page ≡ programmed_at held.dies (place_of_slot dies first)) (sym tried.small.dies)
-      (sym (blank 1 (lit< tt)));
-  of_parity = λ closes. subst (λ (dies : ℕ). (place_of_parity dies 0 (stripe_of_index dies 0)).page
-      ≡ programmed_at held.dies (place_of_parity dies 0 (stripe_of_index dies 0))) (sym tried.small.dies)
-      (sym (blank 0 (lit< tt)));
-}
-
--- and so has the second one, and the parity, after the first
+-- where no page of a superblock is programmed, its second slot and the parity have their next pages after the first slot
 pub second_next : (old new : DiesState) (word : List ℕ) (end : ProgramEnd) → AreTried old → AreUnprogrammed old →
     Programs old new (record { sb = 0; index = 0 }) word end → HasNextPages new.shape (record { sb = 0; index = 1 }) new.dies
 second_next old new word end tried blank did =

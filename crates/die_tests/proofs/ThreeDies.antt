@@ -1,12 +1,12 @@
 -- Three dies that were just mounted are all of a channel's, and tried.
-use Rattle.std.proofs.Common.{◌≡◌, ℕ, zero, suc, ◌<◌, true, List, [], ◌∷◌, length, sym, subst, ap, ◌∙◌, refl, arith, replicate}
-use Rattle.std.specs.Prelude.{Option, Some, is_some}
+use Rattle.std.proofs.Common.{◌≡◌, ℕ, zero, suc, ◌<◌, List, [], ◌∷◌, sym, subst, ap, arith, replicate}
+use Rattle.std.specs.Prelude.{Option, Some}
 use Rattle.std.specs.Option.{unwrap_or}
 use Rattle.ssd_geo.specs.BlockCells.{BlockCells, blank_cells, cells_at}
 use Rattle.ssd_geo.specs.declared.shape.Shape.{Shape}
 use Rattle.onfi_cmd.specs.DieState.{DieState, programmed_in}
-use Rattle.chan_dies.specs.DiesState.{AreMounted, DiesState, IsMountedDie, die_at}
-use Rattle.die_tests.specs.SmallDies.{AreTried, AreUnprogrammed, IsSmall, IsStartDie, IsTriedStart, erases_in, pages_in}
+use Rattle.chan_dies.specs.DiesState.{AreMounted, die_at}
+use Rattle.die_tests.specs.SmallDies.{IsSmall, IsStartDie, IsTriedStart, erases_in, pages_in}
 
 each_start : (shape : Shape) (zeroth one two : DieState) → IsStartDie shape 0 zeroth → IsStartDie shape 1 one → IsStartDie shape 2 two →
     (die : ℕ) → die < 3 → IsStartDie shape die (die_at (zeroth ∷ one ∷ two ∷ []) die)

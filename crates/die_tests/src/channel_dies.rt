@@ -5,7 +5,7 @@ use chan_dies::{EraseEnd, ProgramEnd};
 use ssd_geo::{Place, Weak};
 use std::test::Fail;
 
-// The page with which the stripe at page 0 of superblock 0 stands on a die.
+// The pages of stripe 0 of superblock 0: that of its parity, and those of its two slots.
 const PARITY: Place = Place {
     die: 0,
     sb: 0,
@@ -67,7 +67,10 @@ fn a_fault_of_the_slots_die_is_told(rt: HostRuntime) -> Result<(), Fail> {
     let (zero, one) = (failing(alloc, &[])?, failing(alloc, &[1])?);
     let mut dies = started(alloc, zero, one, failing(alloc, &[])?, &[])?;
     let ends = program_stripe(&mut dies);
-    assert_eq!(rt; ends, (ProgramEnd::Fault { die: 1 }, ProgramEnd::Programmed));
+    assert_eq!(rt;
+        ends,
+        (ProgramEnd::Fault { die: 1 }, ProgramEnd::Programmed)
+    );
     assert_eq!(rt; sense(&mut dies, FIRST_PLACE, 0)?, ONES);
     assert_eq!(rt; sense(&mut dies, PARITY, 0)?, SECOND);
     Ok(())
@@ -79,10 +82,14 @@ fn a_fault_of_the_paritys_die_leaves_the_word(rt: HostRuntime) -> Result<(), Fai
     let (zero, one) = (failing(alloc, &[1])?, failing(alloc, &[])?);
     let mut dies = started(alloc, zero, one, failing(alloc, &[])?, &[])?;
     let ends = program_stripe(&mut dies);
-    assert_eq!(rt; ends, (ProgramEnd::Programmed, ProgramEnd::Fault { die: 0 }));
+    assert_eq!(rt;
+        ends,
+        (ProgramEnd::Programmed, ProgramEnd::Fault { die: 0 })
+    );
     age(&mut dies, 1, 150)?;
     assert_eq!(rt; sense(&mut dies, SECOND_PLACE, 0)?, SECOND);
     assert_eq!(rt; erase(&mut dies), EraseEnd::Erased);
+    assert_eq!(rt; dies.shape().dies, 3);
     assert_eq!(rt; dies.into_dies().len(), 3);
     Ok(())
 }
@@ -98,7 +105,10 @@ fn a_weak_block_answers_fail(rt: HostRuntime) -> Result<(), Fail> {
     };
     let mut dies = simulated(rt.alloc(), &[weak])?;
     let ends = program_stripe(&mut dies);
-    assert_eq!(rt; ends, (ProgramEnd::Programmed, ProgramEnd::Failed { die: 2 }));
+    assert_eq!(rt;
+        ends,
+        (ProgramEnd::Programmed, ProgramEnd::Failed { die: 2 })
+    );
     assert_eq!(rt; sense(&mut dies, FIRST_PLACE, 0)?, FIRST);
     assert_eq!(rt; erase(&mut dies), EraseEnd::Failed { die: 2 });
     assert_eq!(rt; sense(&mut dies, FIRST_PLACE, 0)?, ONES);

@@ -64,8 +64,8 @@ fn small_shape() -> Result<Shape, Fail>
     Ok(shape)
 }
 
-// Three dies, in order.
-fn listed<D: Die>(alloc: Global, zero: D, one: D, two: D) -> Result<Vec<D>, AllocError>
+// A list of three dies.
+fn three_of<D: Die>(alloc: Global, zero: D, one: D, two: D) -> Result<Vec<D>, AllocError>
     ensures { IfOk result (λ dies. dies.items ≡ zero ∷ one ∷ two ∷ []) }
 {
     let mut dies = Vec::new(alloc);
@@ -92,7 +92,7 @@ pub(crate) fn started<D: Die>(
     let zero = mounted(alloc, first, 0, shape, weak)?;
     let one = mounted(alloc, second, 1, shape, weak)?;
     let two = mounted(alloc, third, 2, shape, weak)?;
-    let dies = listed(alloc, zero, one, two)?;
+    let dies = three_of(alloc, zero, one, two)?;
     let sum = vec![in alloc; 0; 48]?;
     let Ok(held) = Dies::new(alloc, dies, shape, sum) else {
         return Err("no memory".into());
