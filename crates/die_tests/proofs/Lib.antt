@@ -1,0 +1,2 @@
+pub mod StripeSteps
+pub mod ThreeDies
