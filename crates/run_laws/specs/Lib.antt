@@ -2,6 +2,7 @@ pub mod CountedFaults
 pub mod FirstSenses
 pub mod Headline
 pub mod PrintedRuns
+pub mod RepliedCalls
 pub mod Runs
 pub mod ServedRuns
 pub mod SerialRuns

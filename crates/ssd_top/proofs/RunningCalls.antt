@@ -21,7 +21,8 @@ use Rattle.run_laws.proofs.ChangedRuns.{get_set, one_or_other}
 use Rattle.serial_laws.proofs.Lists.{all_at, get_set_other}
 use Rattle.serial_laws.proofs.NumberedTags.{numbered_back}
 use Rattle.run_laws.proofs.TaggedData.{tags_give_data}
-use Rattle.run_laws.proofs.UndrainedRuns.{undrained_runs_go_on, writes_go_on}
+use Rattle.run_laws.proofs.UncollectedCalls.{served_is_replied, writes_go_on}
+use Rattle.run_laws.proofs.UndrainedRuns.{undrained_runs_go_on}
 use Rattle.run_laws.proofs.WrittenRoom.{uncollected_pasts_have_room}
 use Rattle.run_laws.proofs.SparedChannels.{serves_find_room, serves_spare_dies}
 use Rattle.run_laws.proofs.SpelledCalls.{Keeps, serves_spelled}
@@ -331,6 +332,9 @@ module _ (input : Input) (worker : WorkerState) (channels : List ChannelState)
           (small_verb worker.shape (length channels) call.verb fits) made.1
           (subst (λ limit. has_first_room limit old.past call.verb ≡ true) of_run.stands.limit_is
           serves.0) in
+          let served : IsServedBy start contents_here (length running.starts) call.tag call.verb reply old.past new.past =
+          subst (λ n. IsServedBy start (contents_in input) n call.tag call.verb reply old.past
+          new.past) (sym many_starts) made.1 in
           let next : LeadsOn contents_here running.starts (pasts_of channels) call reply k new.past =
           record {
             start = start;
@@ -338,9 +342,9 @@ module _ (input : Input) (worker : WorkerState) (channels : List ChannelState)
             is_channel = on_start;
             has_start = there.1;
             has_past = has_past;
-            is_served =
-                subst (λ n. IsServedBy start (contents_in input) n call.tag call.verb reply old.past
-                new.past) (sym many_starts) made.1;
+            is_replied =
+                served_is_replied start (contents_in input) (length running.starts) call.tag call.verb
+                reply old.past new.past served;
             is_lawful = made.0.is_past.is_lawful;
           } in
           let set : slice_set (pasts_of channels) k new.past ≡ pasts_of (slice_set channels k new) =
@@ -351,8 +355,8 @@ module _ (input : Input) (worker : WorkerState) (channels : List ChannelState)
           (undrained_runs_go_on contents_here running.starts input.calls.actors done rest call reply
           replies (pasts_of channels) k new.past numbered running.served next))
           (subst (λ pasts. HasWrites (length running.starts) (done ++ call ∷ []) pasts) set
-          (writes_go_on contents_here running.starts input.calls.actors done rest call reply
-          replies (pasts_of channels) k new.past numbered running.served next running.writes))
+          (writes_go_on start contents_here (length running.starts) k done call reply
+          (pasts_of channels) old.past new.past on_start has_past served running.writes))
 
       -- where its channel's history has no room, the run stops
       pub stops : (new : ChannelState) (entries : ℕ) →
