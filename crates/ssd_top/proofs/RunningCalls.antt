@@ -25,7 +25,7 @@ use Rattle.run_laws.proofs.UncollectedCalls.{served_is_replied, writes_go_on}
 use Rattle.run_laws.proofs.UndrainedRuns.{undrained_runs_go_on}
 use Rattle.run_laws.proofs.WrittenRoom.{uncollected_pasts_have_room}
 use Rattle.run_laws.proofs.SparedChannels.{serves_find_room, serves_spare_dies}
-use Rattle.run_laws.proofs.SpelledCalls.{Keeps, serves_spelled}
+use Rattle.run_laws.proofs.SpelledCalls.{Keeps, replies_spelled}
 use Rattle.run_laws.proofs.SpelledPasts.{IsSmallTag}
 use Rattle.run_laws.specs.Serials.{HasSmallSerials}
 use Rattle.ssd_geo.specs.Faults.{RoseBy}
@@ -327,11 +327,11 @@ module _ (input : Input) (worker : WorkerState) (channels : List ChannelState)
           new.past die call.verb made.1) (of_run.counts die low) in
           let kept : Keeps start contents_here of_run.stands.is_past.is_start call.tag small_tag old.past
           new.past serials made.0.is_past.is_lawful of_run.spelled new.past =
-          serves_spelled start contents_here of_run.stands.is_past.is_start call.tag small_tag old.past
+          replies_spelled start contents_here of_run.stands.is_past.is_start call.tag small_tag old.past
           new.past serials made.0.is_past.is_lawful of_run.spelled (length channels) call.verb reply
-          (small_verb worker.shape (length channels) call.verb fits) made.1
-          (subst (λ limit. has_first_room limit old.past call.verb ≡ true) of_run.stands.limit_is
-          serves.0) in
+          (small_verb worker.shape (length channels) call.verb fits)
+          (served_is_replied start contents_here (length channels) call.tag call.verb reply old.past
+          new.past made.1) has_room in
           let served : IsServedBy start contents_here (length running.starts) call.tag call.verb reply old.past new.past =
           subst (λ n. IsServedBy start (contents_in input) n call.tag call.verb reply old.past
           new.past) (sym many_starts) made.1 in
