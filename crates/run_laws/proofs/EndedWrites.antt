@@ -119,7 +119,7 @@ module _ (tag : Tag) (row : ℕ) (past : List Entry) where
     IsWrittenFrom before after = SerialWrite ladder start.base tag row before after
 
     -- a write goes on from its first past over those programs
-    from_first : (failed : List (Slot × ℕ)) (after : List Entry) → IsLawful start contents (after_failed tag row failed past) →
+    pub from_first : (failed : List (Slot × ℕ)) (after : List Entry) → IsLawful start contents (after_failed tag row failed past) →
         IsWrittenFrom (after_failed tag row failed past) after → IsWrittenFrom past after
     from_first [] after lawful written = written
     from_first (one ∷ older) after lawful written =

@@ -3,6 +3,7 @@ pub mod ChangedRuns
 pub mod CopiedPages
 pub mod CountedFaults
 pub mod CountedWrites
+pub mod CutWrites
 pub mod EndedWrites
 pub mod FailedReads
 pub mod FirstLadders
