@@ -15,7 +15,8 @@ use Rattle.ssd_formats.specs.HistoryText.{is_spelled_entry}
 use Rattle.run_laws.specs.SerialRuns.{with_reply}
 use Rattle.run_laws.specs.ServedRuns.{contents_in, AreStartsOf, IsUndrainedRun, LeadsOn, channel_of}
 use Rattle.ssd_histories.specs.ServedCalls.{IsServedBy}
-use Rattle.run_laws.specs.StoppedRuns.{IsPlainVerb, WouldFindRoom, has_first_room}
+use Rattle.run_laws.specs.StoppedRuns.{IsPlainVerb, has_first_room}
+use Rattle.run_laws.proofs.StoppedRuns.{none_failed}
 use Rattle.run_laws.specs.WrittenRoom.{HasBlankBlocks, HasWrites, IsUncollectedPast, is_write_to, pages_that_fit, writes_to}
 use Rattle.run_laws.proofs.ChangedRuns.{get_set, one_or_other}
 use Rattle.serial_laws.proofs.Lists.{all_at, get_set_other}
@@ -41,7 +42,7 @@ use Rattle.ssd_geo.specs.declared.tag.Tag.{Tag}
 use Rattle.ssd_geo.specs.declared.trace.Content.{Content}
 use Rattle.ssd_geo.specs.declared.trace.TraceCall.{TraceCall}
 use Rattle.ssd_geo.specs.declared.trace.Verb.{Verb}
-use Rattle.ssd_top.specs.ChannelCalls.{HasOwnData, MayServe, IsRefusedOn, IsServedOn}
+use Rattle.ssd_top.specs.ChannelCalls.{HasOwnData, MayServe, IsRefusedOn, IsServedOn, WouldFindRoom}
 use Rattle.ssd_top.specs.Handed.{no_faults}
 use Rattle.ssd_top.specs.Running.{FitsDrive, HasStopped, IsChannelOf, IsRunning, pasts_of}
 use Rattle.ssd_top.proofs.FittingCalls.{write_fits}
@@ -59,7 +60,7 @@ there_at (x ∷ xs) zero low = (x, refl)
 there_at (x ∷ xs) (suc k) low = there_at xs k (omega arith)
 
 -- a list set to what it has is the same
-set_same : {X : Type 0} (xs : List X) (k : ℕ) (x : X) → slice_get xs k ≡ Some x →
+pub set_same : {X : Type 0} (xs : List X) (k : ℕ) (x : X) → slice_get xs k ≡ Some x →
     slice_set xs k x ≡ xs
 set_same [] k x is = absurd (cc)
 set_same {X} (y ∷ xs) zero x is =
@@ -391,6 +392,8 @@ module _ (input : Input) (worker : WorkerState) (channels : List ChannelState)
                 replies pasts) (sym same) running.served)
                 (subst (λ pasts. HasWrites (length running.starts) done pasts) (sym same)
                 running.writes);
+            past = old.past;
+            has_past = subst (λ pasts. slice_get pasts k ≡ Some old.past) (sym same) has_past;
             stops = record {
               is_plain =
                   all_at (λ (other : TraceCall). IsPlainVerb other.verb) input.calls.calls
@@ -402,7 +405,9 @@ module _ (input : Input) (worker : WorkerState) (channels : List ChannelState)
               past = old.past;
               has_start = there.1;
               has_past = subst (λ pasts. slice_get pasts k ≡ Some old.past) (sym same) has_past;
-              finds_room = finds_room call.verb refl;
+              failed = [];
+              now_is = none_failed (length running.starts) call.tag call.verb old.past;
+              is_lawful = of_run.stands.is_past.is_lawful;
               has_length = sym full.entries_are;
               no_room =
                   subst (λ limit. has_first_room limit old.past call.verb ≡ false)
