@@ -1,13 +1,13 @@
 -- Where does a call stop whose channel's history has no room for its next entry? Before its first entry; or, in a write, after
 -- some programs that answered FAIL. With some entries more it would be whole.
-use Rattle.std.specs.Prelude.{ℕ, ◌≡◌, ◌-◌, ◌/◌, Bool, false, List, ◌∷◌, ◌++◌, length, slice_get, slice_set, Some, ⊤}
+use Rattle.std.specs.Prelude.{ℕ, ◌≡◌, ◌-◌, ◌/◌, Bool, true, false, List, ◌∷◌, ◌++◌, length, slice_get, slice_set, Some, ⊤}
 use Rattle.ssd_formats.specs.ImageHead.{Head}
 use Rattle.ssd_geo.specs.declared.entry.Entry.{Entry}
 use Rattle.ssd_geo.specs.declared.slot.Slot.{Slot}
 use Rattle.ssd_geo.specs.declared.tag.Tag.{Tag}
 use Rattle.ssd_geo.specs.declared.trace.TraceCall.{TraceCall}
 use Rattle.ssd_geo.specs.declared.trace.Verb.{Verb}
-use Rattle.ssd_histories.specs.HistoryRoom.{has_look_room, has_step_room}
+use Rattle.ssd_histories.specs.HistoryRoom.{found_room, has_look_room, has_step_room}
 use Rattle.ssd_histories.specs.Lawful.{IsLawful}
 use Rattle.ssd_histories.specs.SerialHistory.{most_hints}
 use Rattle.ssd_histories.specs.Start.{Start}
@@ -21,6 +21,12 @@ abbrev pub has_first_room : ℕ → List Entry → Verb → Bool
 has_first_room limit past (Verb.Read page) = has_look_room limit past
 has_first_room limit past (Verb.Refresh page) = has_look_room limit past
 has_first_room limit past verb = has_step_room limit past
+
+-- the entries of a call of a verb found room in a history with this limit: where it is no write, all behind the first have room set
+-- aside
+abbrev pub HaveFoundRoom : ℕ → List Entry → List Entry → Verb → Type 0
+HaveFoundRoom limit before after (Verb.Write page content) = found_room limit before ≡ true → found_room limit after ≡ true
+HaveFoundRoom limit before after verb = has_first_room limit before verb ≡ true
 
 -- a verb is one of those that are served one after the other so
 abbrev pub IsPlainVerb : Verb → Type 0
