@@ -1,6 +1,8 @@
 pub mod CountedFaults
 pub mod FirstSenses
+pub mod HandedCounts
 pub mod Headline
+pub mod NeededRoom
 pub mod PrintedRuns
 pub mod RepliedCalls
 pub mod Runs
