@@ -1,8 +1,8 @@
 -- A write whose channel's history has no room for one entry more was cut, whatever was to be its next entry: where the host has
 -- room it would be written, where the channel is worn or full refused, and else it would pick a superblock, or take the victim,
 -- and copy a page out of it or erase it.
-use Rattle.std.proofs.Common.{ℕ, zero, suc, ◌≡◌, ◌+◌, ◌*◌, ◌<◌, ◌==◌, ◌&&◌, ◌||◌, nat_le, nat_lt, Bool, true, false, cond, not, List, [], ◌∷◌, ◌++◌, length, map, ℤ, pos, Option, Some, None, refl, sym, ap, subst, ◌∙◌, append_assoc, arith, lt-ltb}
-use Rattle.std.specs.Prelude.{count_by, filter_map, fold, is_none, is_some, min, option_map, position}
+use Rattle.std.proofs.Common.{ℕ, zero, suc, ◌≡◌, ◌+◌, ◌*◌, ◌<◌, ◌==◌, ◌&&◌, ◌||◌, nat_le, nat_lt, Bool, true, false, cond, not, List, [], ◌∷◌, ◌++◌, length, map, pos, Option, Some, None, refl, sym, ap, subst, ◌∙◌, append_assoc, arith, lt-ltb}
+use Rattle.std.specs.Prelude.{count_by, filter_map, fold, is_none, is_some, min, option_map}
 use Rattle.std.specs.List.{position_or_len, range_with_len}
 use Rattle.std.proofs.lemmas.Bool.{false≢true, true≢false}
 use Rattle.std.proofs.lemmas.Bool.Decides.{nat_tests}
@@ -13,11 +13,10 @@ use Rattle.ssd_geo.specs.declared.base.BlockBase.{BlockBase}
 use Rattle.ssd_geo.specs.declared.base.ChannelBase.{ChannelBase}
 use Rattle.ssd_geo.specs.declared.entry.Entry.{Entry}
 use Rattle.ssd_geo.specs.declared.kind.Kind.{Kind}
-use Rattle.ssd_geo.specs.declared.place.Place.{Place}
 use Rattle.ssd_geo.specs.declared.row.Row.{Row}
 use Rattle.ssd_geo.specs.declared.slot.Slot.{Slot}
 use Rattle.ssd_geo.specs.declared.tag.Tag.{Tag}
-use Rattle.ssd_histories.specs.Blocks.{free_blocks_in, is_free_block, is_victim_block, victim_in}
+use Rattle.ssd_histories.specs.Blocks.{is_free_block, is_victim_block}
 use Rattle.ssd_histories.specs.CallSteps.{CallStep}
 use Rattle.ssd_histories.specs.History.{open_looks}
 use Rattle.ssd_histories.specs.HistoryRoom.{has_look_room, has_room_for, has_step_room}
@@ -26,9 +25,9 @@ use Rattle.ssd_histories.specs.PastBlocks.{block_of, blocks_of, is_bad_superbloc
 use Rattle.ssd_histories.specs.PastRows.{rows_of}
 use Rattle.ssd_histories.specs.Room.{count_of_free, count_of_garbage, has_host_room, is_full, is_worn, live_of, live_of_victim, victim_of}
 use Rattle.ssd_histories.specs.Rounds.{first_live_of_victim, is_that_slot, needs_room}
-use Rattle.ssd_histories.specs.SerialCalls.{IsSerialCopy, SerialCopies, SerialRound, SerialWrite, copy_faults, entry_of, erase_faults, faulted, is_refused, may_pick, picks, round_faults, takes, writes}
+use Rattle.ssd_histories.specs.SerialCalls.{SerialCopies, SerialWrite, copy_faults, entry_of, erase_faults, faulted, is_refused, may_pick, picks, round_faults, takes, writes}
 use Rattle.ssd_histories.specs.States.{is_free, is_victim}
-use Rattle.serial_laws.proofs.Lists.{not_true, same_number}
+use Rattle.serial_laws.proofs.Lists.{same_number}
 
 -- the first live slot of a superblock that has a live page
 record HasFirst (rows : List Row) (sb : ℕ) : Type 0 where

@@ -1,9 +1,8 @@
--- A write that was ended: after its programs that answered FAIL, each of which found room for the host, its last entry wrote the
--- page, or a die's call failed, or the channel was worn or full and the write was refused.
-use Rattle.std.proofs.Common.{ℕ, ◌≡◌, ◌%◌, ◌/◌, ◌==◌, ◌&&◌, ◌||◌, nat_le, Bool, true, false, not, List, [], ◌∷◌, ◌++◌, Option, Some, None, refl, sym, ap, subst, ◌∙◌, append_assoc, eqb-true, arith}
-use Rattle.std.specs.Prelude.{is_none, if◌then◌else◌, is_some}
+-- A write that was ended: after its programs that answered FAIL, each of which found room for the host, its last entry wrote
+-- the page, or a die's call failed, or the channel was worn or full and the write was refused.
+use Rattle.std.proofs.Common.{ℕ, ◌≡◌, ◌%◌, ◌/◌, ◌==◌, ◌&&◌, ◌||◌, nat_le, Bool, true, false, not, List, [], ◌∷◌, ◌++◌, Some, refl, sym, ap, subst, ◌∙◌, append_assoc, eqb-true}
+use Rattle.std.specs.Prelude.{is_none, is_some}
 use Rattle.std.proofs.lemmas.Bool.{and_parts, false≢true}
-use Rattle.std.proofs.lemmas.Bool.Decides.{nat_tests}
 use Rattle.ssd_geo.specs.Coding.{coding_of}
 use Rattle.ssd_geo.specs.Ladder.{LadderState}
 use Rattle.ssd_geo.specs.declared.base.BlockBase.{BlockBase}
@@ -15,7 +14,7 @@ use Rattle.ssd_geo.specs.declared.slot.Slot.{Slot}
 use Rattle.ssd_geo.specs.declared.tag.Tag.{Tag}
 use Rattle.ssd_geo.specs.declared.trace.Content.{Content}
 use Rattle.ssd_geo.specs.declared.trace.Verb.{Verb}
-use Rattle.ssd_histories.specs.Blocks.{are_blocks_full, are_blocks_worn, blocks_have_room, free_blocks_in, frontier_of, slots_left, victim_in}
+use Rattle.ssd_histories.specs.Blocks.{are_blocks_full, are_blocks_worn, blocks_have_room, free_blocks_in, frontier_of, victim_in}
 use Rattle.ssd_histories.specs.CallSteps.{CallStep, steps_of}
 use Rattle.ssd_histories.specs.CallsInOrder.{ladder_in, steps_on}
 use Rattle.ssd_histories.specs.Lawful.{IsLawful, IsLawfulEntry, IsLawfulRefused}

@@ -1,5 +1,5 @@
--- What a call leaves of its channel: where it is one that was served, no entry of it tells of a failed call of a die; and where its
--- first entry found room in the history, each did.
+-- What a call leaves of its channel: where it is one that was served, no entry of it tells of a failed call of a die; and
+-- where its first entry found room in the history, each did.
 use Rattle.std.proofs.Common.{ℕ, ◌≡◌, ◌/◌, Bool, true, false, ◌&&◌, cond, List, [], ◌∷◌, length, refl, ap, ◌∙◌, inl, inr, arith}
 use Rattle.std.proofs.lemmas.List.Sums.{sum_by-cons}
 use Rattle.ssd_histories.specs.HistoryRoom.{found_room, has_look_room, has_step_room}

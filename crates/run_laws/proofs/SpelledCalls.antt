@@ -1,5 +1,5 @@
--- After a call whose entries found room, the entries of its channel are ones that a text spells, and no more than the limit of the
--- history: the senses of a look are fewer than the entries that it sets aside.
+-- After a call whose entries found room, the entries of its channel are ones that a text spells, and no more than the limit
+-- of the history: the senses of a look are fewer than the entries that it sets aside.
 use Rattle.std.proofs.Common.{ℕ, suc, ◌≡◌, ◌+◌, ◌-◌, ◌*◌, ◌/◌, ◌^◌, ◌<◌, ◌≤◌, ◌==◌, ◌&&◌, nat_le, Bool, true, false, List, [], ◌∷◌, ◌++◌, length, ℤ, Option, Some, None, sym, ap, subst, inl, inr, arith, eqb-true, length-append}
 use Rattle.std.specs.Prelude.{IsSomeAnd, ⊤}
 use Rattle.std.specs.List.{list_all}

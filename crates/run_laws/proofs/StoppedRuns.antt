@@ -1,5 +1,5 @@
--- A call that stops since its channel's history has no room for its next entry was cut: with some entries more it would be whole.
--- So the statement holds of a run that stopped there.
+-- A call that stops since its channel's history has no room for its next entry was cut: with some entries more it would be
+-- whole. So the statement holds of a run that stopped there.
 use Rattle.std.proofs.Common.{ℕ, ◌≡◌, ◌/◌, ◌%◌, ◌-◌, true, false, not, List, [], ◌∷◌, ◌++◌, length, Some, refl, sym, ap, subst, ◌∙◌, inl}
 use Rattle.std.specs.Prelude.{All, IsTrue, slice_get, slice_set}
 use Rattle.std.specs.List.{list_all}
@@ -21,7 +21,6 @@ use Rattle.ssd_histories.specs.SerialStop.{IsCut, IsCutOn, SerialCut}
 use Rattle.ssd_histories.specs.Start.{Start}
 use Rattle.ssd_geo.specs.declared.entry.Entry.{Entry}
 use Rattle.ssd_geo.specs.declared.kind.Kind.{Kind}
-use Rattle.ssd_geo.specs.declared.reply.Reply.{Reply}
 use Rattle.ssd_geo.specs.declared.row.Row.{Row}
 use Rattle.ssd_geo.specs.declared.slot.Slot.{Slot}
 use Rattle.ssd_geo.specs.declared.tag.Tag.{Tag}

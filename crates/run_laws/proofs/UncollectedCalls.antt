@@ -1,7 +1,7 @@
--- A call that was served where no die's call fails is one that was replied to; its entries collect nothing, and as many of them are
--- writes as the call is.
-use Rattle.std.proofs.Common.{ℕ, ◌≡◌, ◌+◌, ◌%◌, ◌/◌, ◌==◌, true, false, cond, List, [], ◌∷◌, ◌++◌, length, map, ℤ, Bool, Some, refl, sym, ap, subst, ◌∙◌, inl, inr, eq-eqb, arith}
-use Rattle.std.specs.Prelude.{All, slice_get, slice_set, IsTrue}
+-- A call that was served where no die's call fails is one that was replied to; its entries collect nothing, and as many of
+-- them are writes as the call is.
+use Rattle.std.proofs.Common.{ℕ, ◌≡◌, ◌+◌, ◌%◌, ◌/◌, true, false, cond, List, [], ◌∷◌, ◌++◌, length, map, ℤ, Some, refl, sym, ap, subst, ◌∙◌, inl, inr, eq-eqb, arith}
+use Rattle.std.specs.Prelude.{All, slice_get, slice_set}
 use Rattle.std.proofs.lemmas.List.Elements.{All-cons, All-head, All-nil, All-set, All-tail}
 use Rattle.std.proofs.lemmas.List.Sums.{sum_by-cons}
 use Rattle.ssd_formats.proofs.TextLaws.{same_byte}
@@ -15,9 +15,8 @@ use Rattle.ssd_geo.specs.declared.trace.Content.{Content}
 use Rattle.ssd_geo.specs.declared.trace.TraceCall.{TraceCall}
 use Rattle.ssd_geo.specs.declared.trace.Verb.{Verb}
 use Rattle.ssd_histories.specs.CallsInOrder.{is_age_of}
-use Rattle.ssd_histories.specs.Rounds.{is_write_end}
 use Rattle.ssd_histories.specs.SerialCalls.{entry_of}
-use Rattle.ssd_histories.specs.ServedCalls.{HasFoundNone, HasReadPage, IsServedBy}
+use Rattle.ssd_histories.specs.ServedCalls.{HasReadPage, IsServedBy}
 use Rattle.ssd_histories.specs.Start.{Start}
 use Rattle.run_laws.specs.RepliedCalls.{IsRepliedBy}
 use Rattle.run_laws.specs.ServedRuns.{channel_of}

@@ -1,7 +1,7 @@
 -- A run whose calls take no hint goes on after one more: the call was served alone, its reply is that of its own entries, and the
 -- queue goes on with its hint.
 use Rattle.std.proofs.Common.{ℕ, ◌≡◌, ◌<◌, ◌+◌, ◌-◌, List, [], ◌∷◌, ◌++◌, length, map, replicate, Some, refl, sym, ap, subst, ◌∙◌, arith, length-set}
-use Rattle.std.specs.Prelude.{All, count_by, slice_get, slice_set, slice_index_or, sum_by}
+use Rattle.std.specs.Prelude.{count_by, slice_get, slice_set, slice_index_or, sum_by}
 use Rattle.std.proofs.lemmas.List.{length-map}
 use Rattle.std.proofs.lemmas.List.Elements.{All-replicate, All-set}
 use Rattle.std.proofs.lemmas.List.Sums.{sum_by-set, sum_by_push}

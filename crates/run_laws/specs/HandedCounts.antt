@@ -1,6 +1,6 @@
--- With what do the channels of a run begin where dies and policies are handed in, and what do the dies count at the end? Channel c
--- has the dies from number c * K on, with K dies on each channel, and the view that policy c tells, if it tells one. The
--- counts at the end are those of the dies that are handed back.
+-- With what do the channels of a run begin where dies and policies are handed in, and what do the dies count at the end?
+-- Channel c has the dies from number c * K on, with K dies on each channel, and the view that policy c tells, if it tells
+-- one. The counts at the end are those of the dies that are handed back.
 use Rattle.std.specs.Prelude.{ℕ, ◌≡◌, ◌*◌, List, drop, map, slice_index_or, take, Option, None}
 use Rattle.std.specs.List.{range_with_len}
 use Rattle.ssd_formats.specs.Input.{Input}
@@ -25,9 +25,10 @@ handed_to dies all views channel =
 abbrev pub handed_by_channel : ℕ → ℕ → FaultCounts → List (Option PolicyView) → List Handed
 handed_by_channel channels dies all views = map (handed_to dies all views) (range_with_len 0 channels)
 
--- a run is one of an input over dies with these counts before and after it, policies that tell these views, and this limit of the
--- histories
-pub record IsRunOver (asked : Input) (limit : ℕ) (before after : FaultCounts) (views : List (Option PolicyView)) (run : Run) : Type 0 where
+-- a run is one of an input over dies with these counts before and after it, policies that tell these views, and this limit
+-- of the histories
+pub record IsRunOver (asked : Input) (limit : ℕ) (before after : FaultCounts) (views : List (Option PolicyView)) (run : Run)
+    : Type 0 where
   pub calls_are : run.calls ≡ asked.calls
   pub begins :
       BeginsWith asked.head asked.channels limit

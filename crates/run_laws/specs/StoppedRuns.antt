@@ -22,8 +22,8 @@ has_first_room limit past (Verb.Read page) = has_look_room limit past
 has_first_room limit past (Verb.Refresh page) = has_look_room limit past
 has_first_room limit past verb = has_step_room limit past
 
--- the entries of a call of a verb found room in a history with this limit: where it is no write, all behind the first have room set
--- aside
+-- the entries of a call of a verb found room in a history with this limit: where it is no write, all behind the first have
+-- room set aside
 abbrev pub HaveFoundRoom : ℕ → List Entry → List Entry → Verb → Type 0
 HaveFoundRoom limit before after (Verb.Write page content) = found_room limit before ≡ true → found_room limit after ≡ true
 HaveFoundRoom limit before after verb = has_first_room limit before verb ≡ true

@@ -9,7 +9,8 @@ pub fn undrained_runs_go_on()
     ensures { UndrainedRunsGoOn }
 {}
 
-/// The statement holds of a run that stopped in a call, before its first entry or, in a write, after programs that answered FAIL.
+/// The statement holds of a run that stopped in a call, before its first entry or, in a write, after programs that
+/// answered FAIL.
 pub fn stopped_calls_hold()
     ensures { StoppedCallsHold }
 {}
