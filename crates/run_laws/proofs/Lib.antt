@@ -3,6 +3,9 @@ pub mod ChangedRuns
 pub mod CopiedPages
 pub mod CountedFaults
 pub mod CountedWrites
+pub mod CutWrites
+pub mod EndedWrites
+pub mod FailedReads
 pub mod FirstLadders
 pub mod FreshCells
 pub mod KeptRows
@@ -13,12 +16,12 @@ pub mod MadeReads
 pub mod PrintedRuns
 pub mod QueuedHints
 pub mod ReadPages
+pub mod RepliedVerbs
 pub mod RoomLeft
 pub mod SenseSteps
 pub mod SerialHeadline
 pub mod ServedFronts
 pub mod ServedReads
-pub mod ServedVerbs
 pub mod SparedChannels
 pub mod SpelledCalls
 pub mod SpelledHistories
@@ -26,6 +29,7 @@ pub mod SpelledLadders
 pub mod SpelledPasts
 pub mod StoppedRuns
 pub mod TaggedData
+pub mod UncollectedCalls
 pub mod UndrainedRuns
 pub mod UsedRoom
 pub mod WrittenRoom

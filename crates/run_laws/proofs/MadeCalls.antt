@@ -1,7 +1,5 @@
--- What a served call made on its channel: its entries stand at the past's newest end, are the steps of its verb, none is a
--- fault and no look is left open; its reply is that of these steps; that of a read gives the last write's data where the page was
--- recovered; and it is a call that was served alone.
-use Rattle.std.proofs.Common.{ℕ, ◌≡◌, ◌+◌, ◌%◌, true, false, cond, List, [], ◌∷◌, ◌++◌, length, Some, refl, sym, ap, subst, ◌∙◌, arith}
+-- What a call made on its channel: it was served alone, its reply is that of its own steps, and it took no hint.
+use Rattle.std.proofs.Common.{ℕ, ◌≡◌, ◌%◌, Bool, true, false, cond, List, [], ◌∷◌, ◌++◌, length, Some, refl, sym, ap, subst, ◌∙◌, arith}
 use Rattle.std.specs.Prelude.{All, slice_get, IsSomeAnd}
 use Rattle.std.proofs.lemmas.List.Elements.{All-head, All-tail}
 use Rattle.std.proofs.lemmas.List.Sums.{sum_by-cons}
@@ -17,7 +15,7 @@ use Rattle.ssd_geo.specs.declared.reply.Reply.{Reply}
 use Rattle.ssd_geo.specs.declared.tag.Tag.{Tag}
 use Rattle.ssd_geo.specs.declared.trace.Verb.{Verb}
 use Rattle.serial_laws.proofs.NumberedTags.{same_tag}
-use Rattle.run_laws.specs.WrittenRoom.{IsUncollected, is_write, is_write_to, writes_in}
+use Rattle.run_laws.specs.WrittenRoom.{is_write, is_write_to, writes_in}
 
 -- the run of a channel with a start and a past
 abbrev pub run_of : Start → List Entry → ChannelRun
@@ -43,13 +41,18 @@ one_write channels channel verb = cond (is_write_to channels channel verb) 1 0
 abbrev pub with_hint_of : ℕ → Reply → SerialState → SerialState
 with_hint_of page reply state = elim (is_hinted reply) [ true ↦ with_hint page state | false ↦ state ]
 
+-- a reply that is no hint and took none
+pub record IsUnhinted (reply : Reply) : Type 0 where
+  pub takes_none : taken_by reply ≡ 0
+  pub no_hint : is_hinted reply ≡ false
+
+pub without_hint : (page : ℕ) (reply : Reply) (state : SerialState) → IsUnhinted reply → state ≡ with_hint_of page reply state
+without_hint page reply state is =
+    ap {B = SerialState} (λ (b : Bool). elim b [ true ↦ with_hint page state | false ↦ state ]) (sym is.no_hint)
+
 -- what a call made on its channel
 pub record IsMade (start : Start) (contents : List (Tag × List ℕ)) (channels channel : ℕ) (tag : Tag)
     (verb : Verb) (reply : Reply) (past after : List Entry) : Type 0 where
-  pub kinds : List Kind
-  pub after_is : after ≡ grown tag kinds past
-  pub uncollected : All IsUncollected kinds
-  pub writes : writes_in after ≡ writes_in past + one_write channels channel verb
   pub takes_none : taken_by reply ≡ 0
   pub is_reply : (runs : List ChannelRun) → length runs ≡ channels →
       slice_get runs channel ≡ Some (run_of start after) → IsReplyBy contents runs tag reply verb

@@ -1,14 +1,17 @@
--- Calls served one after the other, from none of them on: with the next one, and where a run stops before that one's first entry.
-use Rattle.std.proofs.Common.{ℕ, ◌≡◌, ◌<◌, ◌≤◌, ◌==◌, true, List, [], ◌∷◌, ◌++◌, Option, Some, None, length, map, replicate, refl, sym, ap, subst, ◌∙◌, append_assoc, arith, length-set}
+-- Calls served one after the other, from none of them on: with the next one, and where a run stops in that one.
+use Rattle.std.proofs.Common.{ℕ, ◌≡◌, ◌<◌, ◌≤◌, ◌==◌, Bool, true, false, cond, List, [], ◌∷◌, ◌++◌, Option, Some, None, length, map, replicate, refl, sym, ap, subst, ◌∙◌, append_assoc, arith, length-set}
 use Rattle.std.specs.Prelude.{All, IsTrue, count_by, is_some, slice_index_or}
 use Rattle.std.specs.List.{enumerate_from, list_all}
 use Rattle.std.specs.Option.{ForSome}
 use Rattle.std.proofs.lemmas.List.{length-replicate}
 use Rattle.std.proofs.lemmas.List.Elements.{All-append, All-cons, All-get_or, All-nil, All-replicate, All-tail, All-weaker}
+use Rattle.std.proofs.lemmas.List.Sums.{sum_by_push}
 use Rattle.std.proofs.lemmas.Option.{get_or_from_slice_get, none-some, slice_get_past, slice_get_within}
-use Rattle.serial_laws.proofs.Lists.{all_both, all_numbered, same_Some}
-use Rattle.serial_laws.proofs.MadeCalls.{HasNoSteps}
-use Rattle.serial_laws.proofs.NumberedTags.{IsBelow, IsLate, are_late, counts_grow, counts_in, numbered_back, numbered_front, numbers_are_below}
+use Rattle.serial_laws.proofs.GrownPasts.{steps_stay}
+use Rattle.serial_laws.proofs.Lists.{Pairwise, all_both, all_numbered, pairs_all, pairs_same, same_Some, same_number}
+use Rattle.serial_laws.proofs.MadeCalls.{HasNoSteps, IsGrownRun, run_itself}
+use Rattle.serial_laws.proofs.MovedReplies.{reply_stays}
+use Rattle.serial_laws.proofs.NumberedTags.{IsBelow, IsLate, are_late, counts_grow, counts_in, later_tag, numbered_back, numbered_front, numbers_are_below, other_way}
 use Rattle.serial_laws.proofs.OneReply.{serial_replies_stay}
 use Rattle.serial_laws.proofs.ServedChains.{HoldsSoFar, all_served, none_so_far, nothing_served}
 use Rattle.serial_laws.proofs.UnbegunCalls.{looks_are_left}
@@ -16,13 +19,14 @@ use Rattle.ssd_geo.specs.declared.reply.Reply.{Reply}
 use Rattle.ssd_geo.specs.declared.tag.Tag.{Tag}
 use Rattle.ssd_geo.specs.declared.trace.TraceCall.{TraceCall}
 use Rattle.ssd_formats.specs.TraceText.{is_of_actor}
-use Rattle.ssd_histories.specs.CallsInOrder.{AreNumberedAfter, AreReplies, ChannelRun, IsNotMade, IsNumberedAfter, IsReplyOf, is_left, reply_to}
+use Rattle.ssd_histories.specs.CallsInOrder.{AreNumberedAfter, AreReplies, ChannelRun, IsNotMade, IsNumberedAfter, IsReplyOf, is_left, reply_to, steps_on}
+use Rattle.ssd_histories.specs.History.{is_same_tag}
 use Rattle.ssd_histories.specs.Lawful.{IsLawful}
 use Rattle.ssd_histories.specs.SerialHistory.{AreServed, SerialCall, SerialState, first_state, none_left, serves}
 use Rattle.ssd_histories.specs.SerialStop.{IsSerialStop, SerialCut}
 use Rattle.ssd_histories.specs.Start.{Start}
 use Rattle.run_laws.specs.Headline.{IsStoppedRun}
-use Rattle.run_laws.specs.Runs.{data_in}
+use Rattle.run_laws.specs.Runs.{channels_of, data_in}
 use Rattle.run_laws.specs.SerialRuns.{HasServed, ServedFrontsStop, ServesNext, ServesOneMore, ServingBegins, state_of, with_reply}
 use Rattle.run_laws.proofs.AddedReplies.{new_reply_there, reply_there, still_counted}
 use Rattle.run_laws.proofs.SerialHeadline.{all_answered, serial_stops_hold}
@@ -135,7 +139,7 @@ module _ (contents : List (Tag × List ℕ)) (starts : List Start) (actors : ℕ
   pub none_before : HasNoSteps call.tag before.channels
   none_before = none_so_far done before.channels call.tag below so_far.known late
 
-  none_open : IsTrue (list_all (is_left call.tag) before.channels)
+  pub none_open : IsTrue (list_all (is_left call.tag) before.channels)
   none_open = looks_are_left (counts_in done) done before.channels call.tag late below so_far.known
 
   low : call.tag.actor < length replies
@@ -243,26 +247,74 @@ module _ (contents : List (Tag × List ℕ)) (starts : List Start) (actors : ℕ
       (All-tail (IsLate (counts_in done)) call rest
       (are_late actors done (call ∷ rest) (numbered_back actors [] done (call ∷ rest) numbered)))
 
-  all_replies : AreReplies contents (done ++ call ∷ rest) replies before.channels
-  all_replies = record {
-    enough_calls =
-        enough_calls replies actors (done ++ call ∷ rest) served.as_many_actors
-        (λ actor within.
-        let counted = served.as_many_replies actor within in
-        let grow = counts_grow done (call ∷ rest) actor in
-        omega (arith, counted, grow));
-    are_replies =
-        All-append (λ other. ForSome (reply_to replies other.tag) (IsReplyOf contents before.channels other)) done (call ∷ rest)
-        served.is_serial.are_replies.are_replies
-        (All-weaker (λ (other : TraceCall). reply_to replies other.tag ≡ None)
-        (λ (other : TraceCall). ForSome (reply_to replies other.tag) (IsReplyOf contents before.channels other))
-        (λ other none reply is. absurd (none-some reply (sym none ∙ is))) (call ∷ rest) none_replied);
-  }
+  -- the calls behind it have other tags
+  others_differ : All (λ other. is_same_tag other.tag call.tag ≡ false) rest
+  others_differ =
+      All-weaker (IsLate (counts_in (done ++ call ∷ []))) (λ (other : TraceCall). is_same_tag other.tag call.tag ≡ false)
+      (λ other is_late. later_tag (counts_in (done ++ call ∷ [])) other.tag call.tag is_late own_below) rest
+      (are_late actors (done ++ call ∷ []) rest (numbered_back actors [] done (call ∷ rest) numbered).1)
+    where
+      own_below : IsBelow (counts_in (done ++ call ∷ [])) call.tag
+      own_below =
+          let is = number.is_number in
+          let push = sum_by_push (λ (other : TraceCall). cond (other.tag.actor == call.tag.actor) 1 0) done call in
+          let own : ◌≡◌ {A = ℕ} (cond (call.tag.actor == call.tag.actor) 1 0) 1 =
+          ap {B = ℕ} (λ (b : Bool). cond b 1 0) (same_number call.tag.actor) in
+          omega (arith, is, push, own)
 
-  -- a call that stopped before its first entry
+  -- a call that stopped, with the entries that it had made until then
   module _ (channel entries : ℕ) (calls : List TraceCall) (are : calls ≡ done ++ call ∷ rest) (after : SerialState)
-      (same : after.channels ≡ before.channels)
+      (grown : Pairwise (IsGrownRun call.tag) before.channels after.channels)
+      (lawful : All (λ run. IsLawful run.start contents run.past) after.channels)
       (cut : SerialCut contents (length starts) channel entries call.tag call.verb before after) where
+    still_none_begun : All (IsNotMade after.channels) rest
+    still_none_begun =
+        all_both (IsNotMade before.channels) (λ (other : TraceCall). is_same_tag other.tag call.tag ≡ false)
+        (IsNotMade after.channels)
+        (λ other none differs.
+        pairs_all (IsGrownRun call.tag) (λ (run : ChannelRun). steps_on other.tag run ≡ [])
+        (λ (run : ChannelRun). steps_on other.tag run ≡ [])
+        (λ run next more held. steps_stay other.tag call.tag run.past next.past differs more.grown ∙ held)
+        before.channels after.channels grown none)
+        rest none_begun others_differ
+
+    abbrev Told : TraceCall → Type 0
+    Told other = ForSome (reply_to replies other.tag) (IsReplyOf contents after.channels other)
+
+    abbrev HasStayed : TraceCall → Type 0
+    HasStayed other = (is_some (reply_to replies other.tag) ≡ true) × (is_same_tag other.tag call.tag ≡ false)
+
+    earlier : All HasStayed done
+    earlier =
+        all_both (λ (other : TraceCall). is_some (reply_to replies other.tag) ≡ true) (λ other. IsBelow (counts_in done) other.tag)
+        HasStayed
+        (λ other answered low.
+        (answered, other_way call.tag other.tag (later_tag (counts_in done) call.tag other.tag late low)))
+        done (all_answered contents replies (length starts) served.is_serial.are_served) below
+
+    earlier_told : All Told done
+    earlier_told =
+        all_both HasStayed (λ (other : TraceCall). ForSome (reply_to replies other.tag) (IsReplyOf contents before.channels other))
+        Told
+        (λ other stays held.
+        kept_reply contents before.channels after.channels replies replies (λ tag given is. is) other stays.0 held
+        (λ given is. reply_stays contents call.tag before.channels after.channels other given grown stays.1 is))
+        done earlier served.is_serial.are_replies.are_replies
+
+    all_replies : AreReplies contents (done ++ call ∷ rest) replies after.channels
+    all_replies = record {
+      enough_calls =
+          enough_calls replies actors (done ++ call ∷ rest) served.as_many_actors
+          (λ actor within.
+          let counted = served.as_many_replies actor within in
+          let grow = counts_grow done (call ∷ rest) actor in
+          omega (arith, counted, grow));
+      are_replies =
+          All-append Told done (call ∷ rest) earlier_told
+          (All-weaker (λ (other : TraceCall). reply_to replies other.tag ≡ None) Told
+          (λ other none reply is. absurd (none-some reply (sym none ∙ is))) (call ∷ rest) none_replied);
+    }
+
     pub stop_is : IsSerialStop contents starts calls replies channel entries after
     stop_is = record {
       served = done;
@@ -273,12 +325,14 @@ module _ (contents : List (Tag × List ℕ)) (starts : List Start) (actors : ℕ
       are_served = served.is_serial.are_served;
       is_cut = cut;
       no_replies = none_replied;
-      not_begun = subst (λ (runs : List ChannelRun). All (IsNotMade runs) rest) (sym same) none_begun;
-      are_lawful = subst (λ runs. All (λ run. IsLawful run.start contents run.past) runs) (sym same) served.is_serial.are_lawful;
-      are_replies =
-          subst (λ list. AreReplies contents list replies after.channels) (sym are)
-          (subst (λ runs. AreReplies contents (done ++ call ∷ rest) replies runs) (sym same) all_replies);
+      not_begun = still_none_begun;
+      are_lawful = lawful;
+      are_replies = subst (λ list. AreReplies contents list replies after.channels) (sym are) all_replies;
     }
+
+    pub stopped_call_is : stop_is.call ≡ call
+    unfolding stop_is
+    stopped_call_is = refl
 
 pub serves_one_more : ServesOneMore
 serves_one_more contents starts actors done rest call reply replies before after numbered served next =
@@ -293,7 +347,8 @@ served_fronts_stop head run hints left channel entries done rest call has_calls 
       hints = left;
       is_stop =
           stop_is (data_in head run) run.starts run.calls.actors done rest call run.replies (state_of run hints) numbered served
-          channel entries run.calls.calls are (state_of run left) refl cut;
+          channel entries run.calls.calls are (state_of run left)
+          (pairs_same (IsGrownRun call.tag) (run_itself call.tag) (channels_of run)) served.is_serial.are_lawful cut;
     } in
     record {
       headline =

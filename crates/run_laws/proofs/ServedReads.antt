@@ -1,9 +1,8 @@
--- A read that was served: of a row without a page by its look alone, of a page by its look, its senses and its leave. Its page is
--- pushed as a hint where its data came from a later rung.
+-- A read that was served: of a row without a page by its look alone, of a page by its look, its senses, the one that failed, if
+-- one did, and its leave. Its page is pushed as a hint where its data came from a later rung.
 use Rattle.std.proofs.Common.{ℕ, suc, zero, ◌≡◌, ◌%◌, ◌/◌, ◌==◌, Bool, true, false, List, [], ◌∷◌, length, ℤ, Some, refl, sym, ap, subst, ◌∙◌, inl, arith}
-use Rattle.std.specs.Prelude.{All, slice_get, slice_set}
+use Rattle.std.specs.Prelude.{slice_get, slice_set}
 use Rattle.std.proofs.lemmas.Bool.Decides.{nat_tests}
-use Rattle.std.proofs.lemmas.List.Elements.{All-nil, All-cons}
 use Rattle.std.proofs.lemmas.Option.{slice_get_within}
 use Rattle.ssd_histories.specs.CallSteps.{CallStep, is_look_of_none, steps_of}
 use Rattle.ssd_histories.specs.CallsInOrder.{ladder_in, steps_on}
@@ -13,7 +12,7 @@ use Rattle.ssd_geo.specs.Ladder.{LadderState, asks, recovered, uncorrectable}
 use Rattle.ssd_histories.specs.PastPages.{ladder_of}
 use Rattle.ssd_histories.specs.Replies.{bytes_of_word, read_reply, reply_of_ladder}
 use Rattle.ssd_formats.specs.RunText.{is_hinted, taken_by}
-use Rattle.ssd_histories.specs.SerialCalls.{AreStepsFrom}
+use Rattle.ssd_histories.specs.SerialCalls.{AreStepsFrom, entry_of}
 use Rattle.ssd_histories.specs.SerialHistory.{HasForm, SerialState, after_read, is_hint, reply_of_read, with_hint, with_past}
 use Rattle.ssd_histories.specs.Start.{Start}
 use Rattle.ssd_geo.specs.declared.entry.Entry.{Entry}
@@ -26,11 +25,11 @@ use Rattle.ssd_geo.specs.declared.tag.Tag.{Tag}
 use Rattle.ssd_geo.specs.declared.trace.Verb.{Verb}
 use Rattle.ssd_formats.proofs.TextLaws.{same_byte}
 use Rattle.ssd_histories.specs.ServedCalls.{after_leave, after_lone_look, after_sensing, reply_to_none}
-use Rattle.run_laws.specs.WrittenRoom.{IsUncollected, is_write, writes_in}
+use Rattle.run_laws.specs.RepliedCalls.{after_failed_sense}
 use Rattle.run_laws.proofs.ChangedRuns.{get_set}
-use Rattle.run_laws.proofs.MadeCalls.{IsMade, grown, no_more_writes, on_channel, on_run, one_step, one_step_more, run_of, with_hint_of}
-use Rattle.run_laws.proofs.MadeReads.{has_reply, is_read, leave_kind, look_kind, read_grows, read_kinds, read_steps, steps_are, steps_lead}
-use Rattle.run_laws.proofs.SenseSteps.{all_sense_kinds, sense_kinds}
+use Rattle.run_laws.proofs.MadeCalls.{IsMade, on_channel, on_run, one_step, one_step_more, run_of, with_hint_of}
+use Rattle.run_laws.proofs.FailedReads.{failed_has_reply, failed_steps, failed_steps_are, failed_steps_lead, is_failed_read}
+use Rattle.run_laws.proofs.MadeReads.{has_reply, is_read, read_steps, steps_are, steps_lead}
 use Rattle.serial_laws.proofs.Lists.{same_Some}
 
 -- a reply of a read is a hint in a history just where it counts as one in a run
@@ -51,10 +50,6 @@ takes_no_hint count uncorrectable reply is = sym (ap taken_by (same_Some Reply.U
 -- what a read made, by its steps
 pub record ReadMade (start : Start) (contents : List (Tag × List ℕ)) (row : ℕ) (tag : Tag)
     (reply : Reply) (past after : List Entry) : Type 0 where
-  kinds : List Kind
-  after_is : after ≡ grown tag kinds past
-  uncollected : All IsUncollected kinds
-  no_write : All (λ kind. is_write kind ≡ false) kinds
   takes_none : taken_by reply ≡ 0
   steps : List CallStep
   are : steps_of tag after ≡ steps
@@ -88,12 +83,6 @@ module _ (start : Start) (contents : List (Tag × List ℕ)) (channels channel :
 
   pub read_is_made : IsMade start contents channels channel tag (Verb.Read page) reply past after
   read_is_made = record {
-    kinds = made.kinds;
-    after_is = made.after_is;
-    uncollected = made.uncollected;
-    writes =
-        let none = ap writes_in made.after_is
-        ∙ no_more_writes tag made.kinds past made.no_write in omega (arith, none);
     takes_none = made.takes_none;
     is_reply = λ runs many is.
         on_run (λ run. read_reply run.start.base.shape.bytes (ladder_in contents run)
@@ -121,12 +110,6 @@ module _ (start : Start) (contents : List (Tag × List ℕ)) (row : ℕ) (tag : 
   lone_is_made found reply none is_none replies =
       let kind : Kind = Kind.Look row found false in
       record {
-        kinds = kind ∷ [];
-        after_is = refl;
-        uncollected = All-cons IsUncollected kind [] tt (All-nil IsUncollected);
-        no_write =
-            All-cons (λ other. is_write other ≡ false) kind [] refl
-            (All-nil (λ other. is_write other ≡ false));
         takes_none = none;
         steps = one_step tag kind past;
         are = one_step_more tag kind past [] no_steps;
@@ -156,14 +139,7 @@ module _ (start : Start) (contents : List (Tag × List ℕ)) (row : ℕ) (tag : 
       ReadMade start contents row tag reply past (after_leave tag row slot serial closed senses past)
   page_is_made slot serial closed senses reply is =
       let ladder : List Entry → ℕ → LadderState = ladder_of (coding_of start.base) start contents in
-      let look : Kind = look_kind tag row slot serial closed senses past in
-      let leave : Kind = leave_kind tag row slot serial closed senses past in
       record {
-        kinds = read_kinds tag row slot serial closed senses past;
-        after_is = read_grows tag row slot serial closed senses past;
-        uncollected = all_kinds look leave senses IsUncollected tt (λ place level. tt) tt;
-        no_write =
-            all_kinds look leave senses (λ kind. is_write kind ≡ false) refl (λ place level. refl) refl;
         takes_none =
             takes_no_hint start.base.shape.bytes
             (ladder (after_sensing tag row slot serial closed senses past) (length past)) reply is;
@@ -174,11 +150,18 @@ module _ (start : Start) (contents : List (Tag × List ℕ)) (row : ℕ) (tag : 
         replies =
             has_reply tag row slot serial closed senses past ladder start.base.shape.bytes reply is;
       }
-    where
-      all_kinds : (look leave : Kind) (senses : List (Place × ℤ)) (P : Kind → Type 0) → P look →
-          ((place : Place) (level : ℤ) → P (Kind.Sense (length past) place level)) → P leave →
-          All P (leave ∷ sense_kinds (length past) senses (look ∷ []))
-      all_kinds look leave senses P of_look each of_leave =
-          All-cons P leave (sense_kinds (length past) senses (look ∷ [])) of_leave
-          (all_sense_kinds P (length past) senses (look ∷ []) each
-          (All-cons P look [] of_look (All-nil P)))
+
+  -- a read of a page of which a sense failed
+  pub failed_read_is_made : (slot : Slot) (serial : ℕ) (closed : Bool) (senses : List (Place × ℤ)) (place : Place) (level : ℤ) →
+      ReadMade start contents row tag (Reply.DieFault place.die) past
+      (entry_of tag (Kind.Leave (length past)) ∷ after_failed_sense tag row slot serial closed senses place level past)
+  failed_read_is_made slot serial closed senses place level =
+      let ladder : List Entry → ℕ → LadderState = ladder_of (coding_of start.base) start contents in
+      record {
+        takes_none = refl;
+        steps = failed_steps tag row slot serial closed senses past place level;
+        are = failed_steps_are tag row slot serial closed senses past place level no_steps;
+        lead = failed_steps_lead tag row slot serial closed senses past place level;
+        is_read = is_failed_read tag row slot serial closed senses past place level ladder;
+        replies = failed_has_reply tag row slot serial closed senses past place level ladder start.base.shape.bytes;
+      }

@@ -1,8 +1,8 @@
--- What a served call leaves of its channel: no entry of it tells of a failed call of a die, and where its first entry found room
--- in the history, each did.
+-- What a call leaves of its channel: where it is one that was served, no entry of it tells of a failed call of a die; and
+-- where its first entry found room in the history, each did.
 use Rattle.std.proofs.Common.{ℕ, ◌≡◌, ◌/◌, Bool, true, false, ◌&&◌, cond, List, [], ◌∷◌, length, refl, ap, ◌∙◌, inl, inr, arith}
 use Rattle.std.proofs.lemmas.List.Sums.{sum_by-cons}
-use Rattle.ssd_histories.specs.HistoryRoom.{found_room}
+use Rattle.ssd_histories.specs.HistoryRoom.{found_room, has_look_room, has_step_room}
 use Rattle.ssd_histories.specs.SerialCalls.{entry_of}
 use Rattle.ssd_histories.specs.ServedCalls.{HasFoundNone, HasReadPage, IsServedBy, after_look, after_senses, after_sensing}
 use Rattle.ssd_histories.specs.Standing.{faults_of, is_fault_of}
@@ -14,7 +14,10 @@ use Rattle.ssd_geo.specs.declared.reply.Reply.{Reply}
 use Rattle.ssd_geo.specs.declared.row.Row.{Row}
 use Rattle.ssd_geo.specs.declared.tag.Tag.{Tag}
 use Rattle.ssd_geo.specs.declared.trace.Verb.{Verb}
-use Rattle.run_laws.specs.StoppedRuns.{has_first_room}
+use Rattle.run_laws.specs.RepliedCalls.{HasFailedRead, IsRepliedBy, after_failed_sense}
+use Rattle.run_laws.specs.StoppedRuns.{HaveFoundRoom, has_first_room}
+use Rattle.ssd_histories.specs.CallsInOrder.{is_age_of}
+use Rattle.std.proofs.lemmas.Bool.{false≢true}
 use Rattle.std.specs.Prelude.{ℤ}
 
 -- one more entry that tells of no failed call
@@ -111,3 +114,40 @@ module _ (start : Start) (contents : List (Tag × List ℕ)) (channels : ℕ) (t
     serves_find_room (Verb.Refresh page) served found room = absurd served
     serves_find_room (Verb.Collect channel) served found room = absurd served
     serves_find_room (Verb.Drain count) served found room = absurd served
+
+    -- so it does after a call that was replied to
+    of_failed_read : (row : ℕ) → HasFailedRead tag row before after reply → found_room limit before ≡ true →
+        has_look_room limit before ≡ true → found_room limit after ≡ true
+    of_failed_read row read found room =
+        ap (found_room limit) read.after_is
+        ∙ and_true (found_room limit
+        (after_failed_sense tag row read.slot read.serial read.closed read.senses read.place read.level before))
+        ∙ and_true (found_room limit (after_sensing tag row read.slot read.serial read.closed read.senses before))
+        ∙ room_of_senses (length before) read.senses (after_look tag row read.slot read.serial read.closed before)
+        ∙ and_both (found_room limit before) _ found room
+
+    of_age : (die sb amount : ℕ) (last : Kind) → is_age_of die sb amount last ≡ true → found_room limit before ≡ true →
+        has_step_room limit before ≡ true → found_room limit (entry_of tag last ∷ before) ≡ true
+    of_age die sb amount (Kind.Age named block by) is found room = and_both (found_room limit before) _ found room
+    of_age die sb amount (Kind.FaultAge named block by) is found room = and_both (found_room limit before) _ found room
+    of_age die sb amount last is found room = absurd (false≢true is)
+
+    pub replies_find_room : (verb : Verb) →
+        IsRepliedBy start contents channels tag verb reply before after →
+        found_room limit before ≡ true → HaveFoundRoom limit before after verb →
+        found_room limit after ≡ true
+    replies_find_room (Verb.Write page content) replied found room = room found
+    replies_find_room (Verb.Read page) replied found room =
+        elim replied [
+          | inl lone ↦ serves_find_room (Verb.Read page) (inl lone) found room
+          | inr other ↦ elim other [
+            | inl read ↦ serves_find_room (Verb.Read page) (inr read) found room
+            | inr read ↦ of_failed_read (page / channels) read found room
+          ]
+        ]
+    replies_find_room (Verb.Trim page) replied found room = serves_find_room (Verb.Trim page) replied found room
+    replies_find_room (Verb.Age channel die sb amount) aged found room =
+        ap (found_room limit) aged.after_is ∙ of_age die sb amount aged.last aged.is_age found room
+    replies_find_room (Verb.Refresh page) replied found room = absurd replied
+    replies_find_room (Verb.Collect channel) replied found room = absurd replied
+    replies_find_room (Verb.Drain count) replied found room = absurd replied

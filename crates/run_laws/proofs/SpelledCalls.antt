@@ -1,10 +1,10 @@
--- After a served call the entries of its channel are ones that a text spells, and no more than the limit of the history: the
--- senses of a look are fewer than the entries that it sets aside.
-use Rattle.std.proofs.Common.{ℕ, suc, ◌≡◌, ◌+◌, ◌-◌, ◌*◌, ◌/◌, ◌^◌, ◌<◌, ◌≤◌, ◌==◌, nat_le, Bool, true, false, List, [], ◌∷◌, ◌++◌, length, ℤ, Option, Some, None, sym, ap, subst, inl, inr, arith, length-append}
+-- After a call whose entries found room, the entries of its channel are ones that a text spells, and no more than the limit
+-- of the history: the senses of a look are fewer than the entries that it sets aside.
+use Rattle.std.proofs.Common.{ℕ, suc, ◌≡◌, ◌+◌, ◌-◌, ◌*◌, ◌/◌, ◌^◌, ◌<◌, ◌≤◌, ◌==◌, ◌&&◌, nat_le, Bool, true, false, List, [], ◌∷◌, ◌++◌, length, ℤ, Option, Some, None, sym, ap, subst, inl, inr, arith, eqb-true, length-append}
 use Rattle.std.specs.Prelude.{IsSomeAnd, ⊤}
 use Rattle.std.specs.List.{list_all}
 use Rattle.std.proofs.Math.Nat.{mul-le-mul}
-use Rattle.std.proofs.lemmas.Bool.{and_parts}
+use Rattle.std.proofs.lemmas.Bool.{and_parts, false≢true}
 use Rattle.std.proofs.lemmas.Bool.Decides.{nat_tests}
 use Rattle.ssd_formats.proofs.TextLaws.{same_byte}
 use Rattle.ssd_formats.specs.HistoryText.{is_spelled_entry}
@@ -26,17 +26,19 @@ use Rattle.ssd_geo.specs.declared.slot.Slot.{Slot}
 use Rattle.ssd_geo.specs.declared.tag.Tag.{Tag}
 use Rattle.ssd_geo.specs.declared.trace.Verb.{Verb}
 use Rattle.ssd_histories.specs.History.{look_of, open_look, open_looks}
-use Rattle.ssd_histories.specs.HistoryRoom.{has_look_room, has_step_room}
+use Rattle.ssd_histories.specs.HistoryRoom.{found_room, has_look_room, has_room_for, has_step_room}
 use Rattle.ssd_histories.specs.Lawful.{IsLawful, IsLawfulSense}
 use Rattle.ssd_histories.specs.PastPages.{ladder_of, levels_in, page_of, senses_of}
 use Rattle.ssd_histories.specs.SerialCalls.{entry_of}
-use Rattle.ssd_histories.specs.ServedCalls.{HasFoundNone, HasReadPage, IsServedBy, after_look, after_senses, after_sensing}
+use Rattle.ssd_histories.specs.ServedCalls.{HasFoundNone, HasReadPage, after_look, after_senses, after_sensing}
+use Rattle.ssd_histories.specs.CallsInOrder.{is_age_of}
+use Rattle.ssd_histories.specs.Rounds.{is_write_end}
 use Rattle.ssd_histories.specs.Standing.{IsStart}
 use Rattle.ssd_histories.specs.Start.{Start}
-use Rattle.run_laws.specs.StoppedRuns.{has_first_room}
+use Rattle.run_laws.specs.RepliedCalls.{HasFailedRead, IsRepliedBy, after_failed}
 use Rattle.run_laws.specs.Serials.{HasSmallSerials}
 use Rattle.run_laws.proofs.LookSenses.{none_sensed}
-use Rattle.run_laws.proofs.SpelledPasts.{IsSmallTag, age_spelled, leave_spelled, look_spelled, sense_spelled, trim_spelled, write_spelled}
+use Rattle.run_laws.proofs.SpelledPasts.{IsSmallTag, age_spelled, bad_write_spelled, fault_age_spelled, fault_sense_spelled, leave_spelled, look_spelled, refused_spelled, sense_spelled, trim_spelled, write_spelled}
 
 -- the amount of an ageing fits its field
 abbrev pub IsSmallVerb : Verb → Type 0
@@ -58,6 +60,10 @@ within low high n e = let parts = and_parts (nat_le low n) (nat_le n high) e in 
 
 room_of : (n limit : ℕ) → nat_le n limit ≡ true → n ≤ limit
 room_of n limit e = grind (arith, nat_tests)
+
+-- the amount of an ageing is the one asked for
+same_amount : (named block by die sb amount : ℕ) → (named == die && block == sb && by == amount) ≡ true → by ≡ amount
+same_amount named block by die sb amount is = eqb-true by amount (and_parts (named == die && block == sb) (by == amount) is).1
 
 module _ (start : Start) (contents : List (Tag × List ℕ)) (is_start : IsStart start) (tag : Tag) where
   abbrev sensed_in : List Entry → ℕ → List (List ℕ)
@@ -144,79 +150,207 @@ module _ (start : Start) (contents : List (Tag × List ℕ)) (is_start : IsStart
       abbrev pub Keeps : List Entry → Type 0
       Keeps past = (list_all is_spelled_entry past ≡ true) × (length past ≤ start.limit)
 
-      short_of : (needed : ℕ) → length before + needed ≤ start.limit → length before < 2 ^ 32
-      short_of needed fits = let high = is_start.limit_high in omega (arith, fits, high)
+      short_of : (past : List Entry) (needed : ℕ) → length past + needed ≤ start.limit → length past < 2 ^ 32
+      short_of past needed fits = let high = is_start.limit_high in omega (arith, fits, high)
 
-      step_fits : has_step_room start.limit before ≡ true → length before + 1 ≤ start.limit
-      step_fits room = let all = room_of (length before + 256 * length (open_looks before) + 1) start.limit room in omega (arith, all)
+      step_fits : (past : List Entry) → has_step_room start.limit past ≡ true → length past + 1 ≤ start.limit
+      step_fits past room = let all = room_of (length past + 256 * length (open_looks past) + 1) start.limit room in omega (arith, all)
 
       look_fits : has_look_room start.limit before ≡ true → length before + 256 ≤ start.limit
       look_fits room = let all = room_of (length before + 256 * (length (open_looks before) + 1)) start.limit room in omega (arith, all)
 
-      one_fits : (entry : Entry) → length before + 1 ≤ start.limit → length (entry ∷ before) ≤ start.limit
-      one_fits entry fits = omega (arith, fits)
+      one_fits : (entry : Entry) (past : List Entry) → length past + 1 ≤ start.limit → length (entry ∷ past) ≤ start.limit
+      one_fits entry past fits = omega (arith, fits)
 
-      lone : (row : ℕ) (reply : Reply) → HasFoundNone tag row before after reply → has_look_room start.limit before ≡ true → Keeps after
+      -- the newest entry found room
+      newest_fits : (kind : Kind) (past : List Entry) → found_room start.limit (entry_of tag kind ∷ past) ≡ true →
+          has_room_for start.limit past kind ≡ true
+      newest_fits kind past found = (and_parts (found_room start.limit past) (has_room_for start.limit past kind) found).1
+
+      older_found : (kind : Kind) (past : List Entry) → found_room start.limit (entry_of tag kind ∷ past) ≡ true →
+          found_room start.limit past ≡ true
+      older_found kind past found = (and_parts (found_room start.limit past) (has_room_for start.limit past kind) found).0
+
+      lone : (row : ℕ) (reply : Reply) → HasFoundNone tag row before after reply → found_room start.limit after ≡ true → Keeps after
       lone row reply found room =
-          let fits = look_fits room in
+          let look : Kind = Kind.Look row found.found false in
+          let fits =
+          look_fits (newest_fits look before (subst (λ past. found_room start.limit past ≡ true) found.after_is room)) in
           let here = subst IsLawfulPast found.after_is lawful in
           subst Keeps (sym found.after_is) (
-            look_spelled start is_start contents before spelled (short_of 256 fits) tag small serials row found.found false here.1,
-            one_fits (entry_of tag (Kind.Look row found.found false)) (omega (arith, fits)),
+            look_spelled start is_start contents before spelled (short_of before 256 fits) tag small serials row found.found false here.1,
+            one_fits (entry_of tag look) before (omega (arith, fits)),
           )
 
-      read : (row : ℕ) (reply : Reply) → HasReadPage start contents tag row before after reply → has_look_room start.limit before ≡ true → Keeps after
+      -- the entries of a look and its senses found room where the look did
+      look_found : (at : ℕ) (senses : List (Place × ℤ)) (past : List Entry) →
+          found_room start.limit (after_senses tag at senses past) ≡ true → found_room start.limit past ≡ true
+      look_found at [] past found = found
+      look_found at (one ∷ more) past found =
+          older_found (Kind.Sense at one.0 one.1) past (look_found at more (entry_of tag (Kind.Sense at one.0 one.1) ∷ past) found)
+
+      module _ (row : ℕ) (slot : Slot) (serial : ℕ) (closed : Bool) (senses : List (Place × ℤ)) where
+        abbrev looked : List Entry
+        looked = after_look tag row slot serial closed before
+
+        abbrev has_sensed : List Entry
+        has_sensed = after_sensing tag row slot serial closed senses before
+
+        -- a look and its senses leave room for two entries more
+        record LeavesRoom : Type 0 where
+          are_spelled : list_all is_spelled_entry has_sensed ≡ true
+          leaves : length has_sensed + 2 ≤ start.limit
+
+        sensing : IsLawfulPast has_sensed → found_room start.limit has_sensed ≡ true → LeavesRoom
+        sensing here room =
+            let fits = look_fits (newest_fits (Kind.Look row (Row.Page slot serial) closed) before
+            (look_found (length before) senses looked room)) in
+            let high = is_start.limit_high in
+            let first : IsLawfulPast looked = lawful_first (length before) senses looked here in
+            let none : sensed_in looked (length before) ≡ [] =
+            none_sensed (ladder_of (coding_of start.base) start contents) (coding_of start.base) start contents before (length before) first.0 (omega arith) in
+            let few = few_senses (length before) senses looked here
+            (subst (λ (given : List (List ℕ)). length given ≤ bound) (sym none) (omega arith)) in
+            let long_none : length (sensed_in looked (length before)) ≡ 0 = ap (length {A = List ℕ}) none in
+            let counted : length senses ≤ bound = omega (arith, few, long_none) in
+            let low = bound_low in
+            let long = after_long tag (length before) senses looked in
+            let look = look_spelled start is_start contents before spelled (short_of before 256 fits) tag small serials row (Row.Page slot serial) closed first.1 in
+            record {
+              are_spelled =
+                  senses_spelled (length before) senses looked look (omega (arith, fits, high, counted, low)) here;
+              leaves = omega (arith, long, fits, counted, low);
+            }
+
+        -- and then a leave, behind a sense that failed, if one did
+        left : (past : List Entry) → list_all is_spelled_entry past ≡ true → length past + 1 ≤ start.limit →
+            IsLawfulPast (entry_of tag (Kind.Leave (length before)) ∷ past) → Keeps (entry_of tag (Kind.Leave (length before)) ∷ past)
+        left past spelled_past fits here = (
+          leave_spelled start is_start contents past spelled_past (short_of past 1 fits) tag small (length before) here.1,
+          one_fits (entry_of tag (Kind.Leave (length before))) past fits,
+        )
+
+      read : (row : ℕ) (reply : Reply) → HasReadPage start contents tag row before after reply → found_room start.limit after ≡ true → Keeps after
       read row reply found room =
-          let fits = look_fits room in
-          let high = is_start.limit_high in
+          let sensed : List Entry = after_sensing tag row found.slot found.serial found.closed found.senses before in
           let here = subst IsLawfulPast found.after_is lawful in
-          let first : IsLawfulPast (after_look tag row found.slot found.serial found.closed before) =
-          lawful_first (length before) found.senses (after_look tag row found.slot found.serial found.closed before) here.0 in
-          let none : sensed_in (after_look tag row found.slot found.serial found.closed before) (length before) ≡ [] =
-          none_sensed (ladder_of (coding_of start.base) start contents) (coding_of start.base) start contents before (length before) first.0 (omega arith) in
-          let few = few_senses (length before) found.senses (after_look tag row found.slot found.serial found.closed before) here.0
-          (subst (λ (senses : List (List ℕ)). length senses ≤ bound) (sym none) (omega arith)) in
-          let long_none : length (sensed_in (after_look tag row found.slot found.serial found.closed before) (length before)) ≡ 0 = ap (length {A = List ℕ}) none in
-          let counted : length found.senses ≤ bound = omega (arith, few, long_none) in
-          let low = bound_low in
-          let long = after_long tag (length before) found.senses (after_look tag row found.slot found.serial found.closed before) in
-          let look = look_spelled start is_start contents before spelled (short_of 256 fits) tag small serials row (Row.Page found.slot found.serial) found.closed first.1 in
-          let senses = senses_spelled (length before) found.senses (after_look tag row found.slot found.serial found.closed before) look
-          (omega (arith, fits, high, counted, low)) here.0 in
-          subst Keeps (sym found.after_is) (
-            leave_spelled start is_start contents (after_sensing tag row found.slot found.serial found.closed found.senses before) senses
-                (omega (arith, long, fits, high, counted, low)) tag small (length before) here.1,
-            omega (arith, long, fits, counted, low),
-          )
+          let has_room : found_room start.limit sensed ≡ true =
+          older_found (Kind.Leave (length before)) sensed (subst (λ past. found_room start.limit past ≡ true) found.after_is room) in
+          let kept : LeavesRoom row found.slot found.serial found.closed found.senses =
+          sensing row found.slot found.serial found.closed found.senses here.0 has_room in
+          let leaves = kept.leaves in
+          subst Keeps (sym found.after_is)
+          (left row found.slot found.serial found.closed found.senses sensed kept.are_spelled (omega (arith, leaves)) here)
 
-      pub serves_spelled : (channels : ℕ) (verb : Verb) (reply : Reply) → IsSmallVerb verb →
-          IsServedBy start contents channels tag verb reply before after → has_first_room start.limit before verb ≡ true → Keeps after
-      serves_spelled channels (Verb.Write page content) reply fine served room =
-          let fits = step_fits room in
-          let here = subst IsLawfulPast served.1.after_is lawful in
-          subst Keeps (sym served.1.after_is) (
-            write_spelled start is_start contents before spelled (short_of 1 fits) tag small (page / channels) served.1.slot here.1,
-            one_fits (entry_of tag (Kind.Write (page / channels) served.1.slot)) fits,
+      failed_read : (row : ℕ) (reply : Reply) → HasFailedRead tag row before after reply → found_room start.limit after ≡ true → Keeps after
+      failed_read row reply found room =
+          let sensed : List Entry = after_sensing tag row found.slot found.serial found.closed found.senses before in
+          let fault : Kind = Kind.FaultSense (length before) found.place found.level in
+          let here = subst IsLawfulPast found.after_is lawful in
+          let has_room : found_room start.limit sensed ≡ true =
+          older_found fault sensed
+          (older_found (Kind.Leave (length before)) (entry_of tag fault ∷ sensed)
+          (subst (λ past. found_room start.limit past ≡ true) found.after_is room)) in
+          let kept : LeavesRoom row found.slot found.serial found.closed found.senses =
+          sensing row found.slot found.serial found.closed found.senses here.0.0 has_room in
+          let leaves = kept.leaves in
+          let spelled_fault : list_all is_spelled_entry (entry_of tag fault ∷ sensed) ≡ true =
+          fault_sense_spelled start is_start contents sensed kept.are_spelled (short_of sensed 2 leaves) tag small
+          (length before) found.place found.level here.0.1 in
+          subst Keeps (sym found.after_is)
+          (left row found.slot found.serial found.closed found.senses (entry_of tag fault ∷ sensed) spelled_fault
+          (omega (arith, leaves)) here)
+
+      -- programs that answered FAIL
+      failed_spelled : (row : ℕ) (failed : List (Slot × ℕ)) → IsLawfulPast (after_failed tag row failed before) →
+          found_room start.limit (after_failed tag row failed before) ≡ true →
+          list_all is_spelled_entry (after_failed tag row failed before) ≡ true
+      failed_spelled row [] here found = spelled
+      failed_spelled row (one ∷ older) here found =
+          let past : List Entry = after_failed tag row older before in
+          let kind : Kind = Kind.BadWrite row one.0 one.1 false in
+          let fits = step_fits past (newest_fits kind past found) in
+          bad_write_spelled start is_start contents past (failed_spelled row older here.0 (older_found kind past found))
+          (short_of past 1 fits) tag small row one.0 one.1 false here.1
+
+      -- the last entry of a write
+      by_last : (row : ℕ) (past : List Entry) (last : Kind) → list_all is_spelled_entry past ≡ true → is_write_end row last ≡ true →
+          IsLawfulPast (entry_of tag last ∷ past) → found_room start.limit (entry_of tag last ∷ past) ≡ true →
+          Keeps (entry_of tag last ∷ past)
+      by_last row past (Kind.Write named slot) held is here found =
+          let fits = step_fits past (newest_fits (Kind.Write named slot) past found) in
+          (
+            write_spelled start is_start contents past held (short_of past 1 fits) tag small named slot here.1,
+            one_fits (entry_of tag (Kind.Write named slot)) past fits,
           )
-      serves_spelled channels (Verb.Read page) reply fine served room =
-          elim served [
+      by_last row past (Kind.BadWrite named slot die fault) held is here found =
+          let fits = step_fits past (newest_fits (Kind.BadWrite named slot die fault) past found) in
+          (
+            bad_write_spelled start is_start contents past held (short_of past 1 fits) tag small named slot die fault here.1,
+            one_fits (entry_of tag (Kind.BadWrite named slot die fault)) past fits,
+          )
+      by_last row past (Kind.Refused named worn) held is here found =
+          let fits = step_fits past (newest_fits (Kind.Refused named worn) past found) in
+          (
+            refused_spelled start is_start contents past held (short_of past 1 fits) tag small named worn here.1,
+            one_fits (entry_of tag (Kind.Refused named worn)) past fits,
+          )
+      by_last row past last held is here found = absurd (false≢true is)
+
+      -- an ageing
+      by_age : (die sb amount : ℕ) (last : Kind) → amount < 2 ^ 16 → is_age_of die sb amount last ≡ true →
+          IsLawfulPast (entry_of tag last ∷ before) → found_room start.limit (entry_of tag last ∷ before) ≡ true →
+          Keeps (entry_of tag last ∷ before)
+      by_age die sb amount (Kind.Age named block by) fine is here found =
+          let fits = step_fits before (newest_fits (Kind.Age named block by) before found) in
+          (
+            age_spelled start is_start contents before spelled (short_of before 1 fits) tag small named block by
+                (low_amount named block by is) here.1,
+            one_fits (entry_of tag (Kind.Age named block by)) before fits,
+          )
+        where
+          low_amount : (named block by : ℕ) → is_age_of die sb amount (Kind.Age named block by) ≡ true → by < 2 ^ 16
+          low_amount named block by is = let same = same_amount named block by die sb amount is in omega (arith, same, fine)
+      by_age die sb amount (Kind.FaultAge named block by) fine is here found =
+          let fits = step_fits before (newest_fits (Kind.FaultAge named block by) before found) in
+          let same = same_amount named block by die sb amount is in
+          (
+            fault_age_spelled start is_start contents before spelled (short_of before 1 fits) tag small named block by
+                (omega (arith, same, fine)) here.1,
+            one_fits (entry_of tag (Kind.FaultAge named block by)) before fits,
+          )
+      by_age die sb amount last fine is here found = absurd (false≢true is)
+
+      pub replies_spelled : (channels : ℕ) (verb : Verb) (reply : Reply) → IsSmallVerb verb →
+          IsRepliedBy start contents channels tag verb reply before after → found_room start.limit after ≡ true → Keeps after
+      replies_spelled channels (Verb.Write page content) reply fine ended room =
+          let past : List Entry = after_failed tag (page / channels) ended.failed before in
+          let here = subst IsLawfulPast ended.after_is lawful in
+          let found = subst (λ new. found_room start.limit new ≡ true) ended.after_is room in
+          subst Keeps (sym ended.after_is)
+          (by_last (page / channels) past ended.last
+          (failed_spelled (page / channels) ended.failed here.0 (older_found ended.last past found)) ended.is_end here found)
+      replies_spelled channels (Verb.Read page) reply fine replied room =
+          elim replied [
             | inl found ↦ lone (page / channels) reply found room
-            | inr found ↦ read (page / channels) reply found room
+            | inr other ↦ elim other [
+              | inl found ↦ read (page / channels) reply found room
+              | inr found ↦ failed_read (page / channels) reply found room
+            ]
           ]
-      serves_spelled channels (Verb.Trim page) reply fine served room =
-          let fits = step_fits room in
-          let here = subst IsLawfulPast served.1 lawful in
-          subst Keeps (sym served.1) (
-            trim_spelled start is_start contents before spelled (short_of 1 fits) tag small (page / channels) here.1,
-            one_fits (entry_of tag (Kind.Trim (page / channels))) fits,
+      replies_spelled channels (Verb.Trim page) reply fine replied room =
+          let here = subst IsLawfulPast replied.1 lawful in
+          let fits =
+          step_fits before (newest_fits (Kind.Trim (page / channels)) before
+          (subst (λ new. found_room start.limit new ≡ true) replied.1 room)) in
+          subst Keeps (sym replied.1) (
+            trim_spelled start is_start contents before spelled (short_of before 1 fits) tag small (page / channels) here.1,
+            one_fits (entry_of tag (Kind.Trim (page / channels))) before fits,
           )
-      serves_spelled channels (Verb.Age channel die sb amount) reply fine served room =
-          let fits = step_fits room in
-          let here = subst IsLawfulPast served.1 lawful in
-          subst Keeps (sym served.1) (
-            age_spelled start is_start contents before spelled (short_of 1 fits) tag small die sb amount fine here.1,
-            one_fits (entry_of tag (Kind.Age die sb amount)) fits,
-          )
-      serves_spelled channels (Verb.Refresh page) reply fine served room = absurd served
-      serves_spelled channels (Verb.Collect channel) reply fine served room = absurd served
-      serves_spelled channels (Verb.Drain count) reply fine served room = absurd served
+      replies_spelled channels (Verb.Age channel die sb amount) reply fine aged room =
+          subst Keeps (sym aged.after_is)
+          (by_age die sb amount aged.last fine aged.is_age (subst IsLawfulPast aged.after_is lawful)
+          (subst (λ new. found_room start.limit new ≡ true) aged.after_is room))
+      replies_spelled channels (Verb.Refresh page) reply fine replied room = absurd replied
+      replies_spelled channels (Verb.Collect channel) reply fine replied room = absurd replied
+      replies_spelled channels (Verb.Drain count) reply fine replied room = absurd replied

@@ -199,17 +199,38 @@ module _ (start : Start) (is_start : IsStart start) where
           one (Kind.Write row slot)
           (both (nat_lt row (2 ^ 32)) (is_spelled_slot slot) (low row shape.rows (2 ^ 32) parts.0 few_rows) (slot_spelled slot parts.1))
 
+      pub bad_write_spelled : (row : ℕ) (slot : Slot) (die : ℕ) (fault : Bool) → IsLawfulHere (Kind.BadWrite row slot die fault) →
+          list_all is_spelled_entry (entry_of tag (Kind.BadWrite row slot die fault) ∷ past) ≡ true
+      bad_write_spelled row slot die fault lawful =
+          let parts = parts_of (nat_lt row shape.rows) (has_slot shape slot) (nat_lt die shape.dies) lawful.in_range in
+          let dies = shape.within.dies_high in
+          one (Kind.BadWrite row slot die fault)
+          (three (nat_lt row (2 ^ 32)) (is_spelled_slot slot) (nat_lt die (2 ^ 8)) (low row shape.rows (2 ^ 32) parts.first few_rows)
+          (slot_spelled slot parts.second) (low die shape.dies (2 ^ 8) parts.third (omega (arith, dies))))
+
+      pub refused_spelled : (row : ℕ) (worn : Bool) → IsLawfulHere (Kind.Refused row worn) →
+          list_all is_spelled_entry (entry_of tag (Kind.Refused row worn) ∷ past) ≡ true
+      refused_spelled row worn lawful = one (Kind.Refused row worn) (low row shape.rows (2 ^ 32) lawful.in_range few_rows)
+
       pub trim_spelled : (row : ℕ) → IsLawfulHere (Kind.Trim row) → list_all is_spelled_entry (entry_of tag (Kind.Trim row) ∷ past) ≡ true
       trim_spelled row lawful = one (Kind.Trim row) (low row shape.rows (2 ^ 32) lawful.in_range few_rows)
 
+      -- an ageing, done or failed
+      block_spelled : (die sb amount : ℕ) → amount < 2 ^ 16 → (nat_lt die shape.dies && nat_lt sb shape.superblocks) ≡ true →
+          (nat_lt die (2 ^ 8) && nat_lt sb (2 ^ 16) && nat_lt amount (2 ^ 16)) ≡ true
+      block_spelled die sb amount less in_range =
+          let parts = and_parts (nat_lt die shape.dies) (nat_lt sb shape.superblocks) in_range in
+          let dies = shape.within.dies_high in
+          three (nat_lt die (2 ^ 8)) (nat_lt sb (2 ^ 16)) (nat_lt amount (2 ^ 16)) (low die shape.dies (2 ^ 8) parts.0 (omega (arith, dies)))
+          (low sb shape.superblocks (2 ^ 16) parts.1 few_superblocks) (lt-ltb amount (2 ^ 16) less)
+
       pub age_spelled : (die sb amount : ℕ) → amount < 2 ^ 16 → IsLawfulHere (Kind.Age die sb amount) →
           list_all is_spelled_entry (entry_of tag (Kind.Age die sb amount) ∷ past) ≡ true
-      age_spelled die sb amount less lawful =
-          let parts = and_parts (nat_lt die shape.dies) (nat_lt sb shape.superblocks) lawful.in_range in
-          let dies = shape.within.dies_high in
-          one (Kind.Age die sb amount)
-          (three (nat_lt die (2 ^ 8)) (nat_lt sb (2 ^ 16)) (nat_lt amount (2 ^ 16)) (low die shape.dies (2 ^ 8) parts.0 (omega (arith, dies)))
-          (low sb shape.superblocks (2 ^ 16) parts.1 few_superblocks) (lt-ltb amount (2 ^ 16) less))
+      age_spelled die sb amount less lawful = one (Kind.Age die sb amount) (block_spelled die sb amount less lawful.in_range)
+
+      pub fault_age_spelled : (die sb amount : ℕ) → amount < 2 ^ 16 → IsLawfulHere (Kind.FaultAge die sb amount) →
+          list_all is_spelled_entry (entry_of tag (Kind.FaultAge die sb amount) ∷ past) ≡ true
+      fault_age_spelled die sb amount less lawful = one (Kind.FaultAge die sb amount) (block_spelled die sb amount less lawful.in_range)
 
       closed_spelled : (found : Row) (closed : Bool) → closed ≡ is_closed_page start.base past found → is_closed_of_page found closed ≡ true
       closed_spelled Row.Empty closed is = ap not is
@@ -239,22 +260,32 @@ module _ (start : Start) (is_start : IsStart start) where
       some_sense None at place level state some = absurd some
       some_sense (Some look) at place level state some = some.is_asked
 
-      pub sense_spelled : (at : ℕ) (place : Place) (level : ℤ) → IsLawfulHere (Kind.Sense at place level) →
-          list_all is_spelled_entry (entry_of tag (Kind.Sense at place level) ∷ past) ≡ true
-      sense_spelled at place level lawful =
-          let state = ladder_of (coding_of start.base) start contents past at in
+      -- a sense that is asked for, whether it fails or not
+      asked_spelled : (at : ℕ) (place : Place) (level : ℤ) → has_place shape place ≡ true →
+          IsSomeAnd (open_look past tag at)
+          (λ look. IsLawfulSense (ladder_of (coding_of start.base) start contents past at) past at place level) →
+          (nat_lt at (2 ^ 32) && is_spelled_place place && is_short level) ≡ true
+      asked_spelled at place level in_range meets =
           let step = ltb_high start.base.step is_start.fields.step in
-          one (Kind.Sense at place level)
-          (three (nat_lt at (2 ^ 32)) (is_spelled_place place) (is_short level)
-          (at_is_low at (λ look. IsLawfulSense (ladder_of (coding_of start.base) start contents past at) past at place level) lawful.meets)
-          (place_spelled place lawful.in_range)
+          three (nat_lt at (2 ^ 32)) (is_spelled_place place) (is_short level)
+          (at_is_low at (λ look. IsLawfulSense (ladder_of (coding_of start.base) start contents past at) past at place level) meets)
+          (place_spelled place in_range)
           (level_short (ladder_of (coding_of start.base) start contents past at) place level
           (ladder_asks_short (coding_of start.base) is_start.fields.levels step start.base.shape.dies (look_of past at)
           (senses_of (coding_of start.base) start contents past at))
-          (some_sense (open_look past tag at) at place level (ladder_of (coding_of start.base) start contents past at) lawful.meets)))
+          (some_sense (open_look past tag at) at place level (ladder_of (coding_of start.base) start contents past at) meets))
         where
           ltb_high : (n : ℕ) → is_within 1 2047 n ≡ true → n ≤ 2047
           ltb_high n e = let parts = and_parts (nat_le 1 n) (nat_le n 2047) e in let high = parts.1 in grind (arith, nat_tests)
+
+      pub sense_spelled : (at : ℕ) (place : Place) (level : ℤ) → IsLawfulHere (Kind.Sense at place level) →
+          list_all is_spelled_entry (entry_of tag (Kind.Sense at place level) ∷ past) ≡ true
+      sense_spelled at place level lawful = one (Kind.Sense at place level) (asked_spelled at place level lawful.in_range lawful.meets)
+
+      pub fault_sense_spelled : (at : ℕ) (place : Place) (level : ℤ) → IsLawfulHere (Kind.FaultSense at place level) →
+          list_all is_spelled_entry (entry_of tag (Kind.FaultSense at place level) ∷ past) ≡ true
+      fault_sense_spelled at place level lawful =
+          one (Kind.FaultSense at place level) (asked_spelled at place level lawful.in_range lawful.meets)
 
       pub leave_spelled : (at : ℕ) → IsLawfulHere (Kind.Leave at) → list_all is_spelled_entry (entry_of tag (Kind.Leave at) ∷ past) ≡ true
       leave_spelled at lawful =

@@ -1,33 +1,29 @@
 -- A run whose calls take no hint goes on after one more: the call was served alone, its reply is that of its own entries, and the
 -- queue goes on with its hint.
 use Rattle.std.proofs.Common.{ℕ, ◌≡◌, ◌<◌, ◌+◌, ◌-◌, List, [], ◌∷◌, ◌++◌, length, map, replicate, Some, refl, sym, ap, subst, ◌∙◌, arith, length-set}
-use Rattle.std.specs.Prelude.{All, count_by, slice_get, slice_set, slice_index_or, sum_by}
+use Rattle.std.specs.Prelude.{count_by, slice_get, slice_set, slice_index_or, sum_by}
 use Rattle.std.proofs.lemmas.List.{length-map}
-use Rattle.std.proofs.lemmas.List.Elements.{All-cons, All-head, All-nil, All-replicate, All-set, All-tail}
+use Rattle.std.proofs.lemmas.List.Elements.{All-replicate, All-set}
 use Rattle.std.proofs.lemmas.List.Sums.{sum_by-set, sum_by_push}
 use Rattle.std.proofs.lemmas.Option.{slice_get_within}
 use Rattle.serial_laws.proofs.Lists.{all_at, sum_of_none}
 use Rattle.ssd_formats.specs.RunText.{is_hinted, taken_by}
 use Rattle.ssd_geo.specs.declared.entry.Entry.{Entry}
-use Rattle.ssd_geo.specs.declared.kind.Kind.{Kind}
 use Rattle.ssd_geo.specs.declared.reply.Reply.{Reply}
 use Rattle.ssd_geo.specs.declared.tag.Tag.{Tag}
 use Rattle.ssd_geo.specs.declared.trace.TraceCall.{TraceCall}
 use Rattle.ssd_histories.specs.CallsInOrder.{AreNumberedAfter, ChannelRun, steps_on}
 use Rattle.ssd_histories.specs.Lawful.{IsLawful}
-use Rattle.ssd_histories.specs.SerialCalls.{entry_of}
 use Rattle.ssd_histories.specs.SerialHistory.{SerialCall, SerialState, most_hints}
 use Rattle.ssd_histories.specs.Start.{Start}
 use Rattle.run_laws.specs.Runs.{runs_with}
 use Rattle.run_laws.specs.SerialRuns.{HasServed, ServesNext, with_reply}
 use Rattle.run_laws.specs.ServedRuns.{IsUndrainedRun, LeadsOn, UndrainedRunsGoOn, hints_in, undrained}
-use Rattle.run_laws.specs.WrittenRoom.{HasWrites, IsUncollected, IsUncollectedPast, writes_in}
 use Rattle.run_laws.proofs.ChangedRuns.{get_set, run_at, runs_as_many, runs_changed}
-use Rattle.run_laws.proofs.CountedWrites.{still_counts_writes}
-use Rattle.run_laws.proofs.MadeCalls.{IsMade, grown, run_of}
+use Rattle.run_laws.proofs.MadeCalls.{IsMade, run_of}
 use Rattle.run_laws.proofs.QueuedHints.{IsQueueAfter, hints_with_more, one_hint, queue_after}
 use Rattle.run_laws.proofs.ServedFronts.{none_before, number, serves_one_more, serving_begins}
-use Rattle.run_laws.proofs.ServedVerbs.{call_is_made}
+use Rattle.run_laws.proofs.RepliedVerbs.{call_is_made}
 
 -- no hint is taken by its reply
 still_none_taken : (replies : List (List Reply)) (actor : ℕ) (reply : Reply) → actor < length replies → taken_by reply ≡ 0 →
@@ -36,15 +32,6 @@ still_none_taken replies actor reply low none before =
     let sums = sum_by-set (sum_by taken_by) replies actor (slice_index_or replies actor [] ++ reply ∷ []) [] low in
     let more = sum_by_push taken_by (slice_index_or replies actor []) reply in
     omega (arith, sums, more, none, before)
-
--- an uncollected past is so with such entries more
-grown_is_uncollected : (tag : Tag) (kinds : List Kind) (past : List Entry) → All IsUncollected kinds → IsUncollectedPast past →
-    IsUncollectedPast (grown tag kinds past)
-grown_is_uncollected tag [] past of_kinds of_past = of_past
-grown_is_uncollected tag (kind ∷ kinds) past of_kinds of_past =
-    All-cons (λ (entry : Entry). IsUncollected entry.kind) (entry_of tag kind) (grown tag kinds past)
-    (All-head IsUncollected kind kinds of_kinds)
-    (grown_is_uncollected tag kinds past (All-tail IsUncollected kind kinds of_kinds) of_past)
 
 module _ (contents : List (Tag × List ℕ)) (starts : List Start) (actors : ℕ) (done rest : List TraceCall) (call : TraceCall)
     (reply : Reply) (replies : List (List Reply)) (pasts : List (List Entry)) (channel : ℕ) (after : List Entry)
@@ -71,7 +58,7 @@ module _ (contents : List (Tag × List ℕ)) (starts : List Start) (actors : ℕ
       call_is_made next.start contents (length starts) channel call.tag call.verb reply next.past after next.is_channel
       (all_at (λ (run : ChannelRun). steps_on call.tag run ≡ []) (runs_with starts pasts) channel (run_of next.start next.past)
       (none_before contents starts actors done rest call replies before numbered running.has_served) is_run)
-      next.is_served next.is_lawful
+      next.is_replied next.is_lawful
 
   abbrev runs_after : List ChannelRun
   runs_after = slice_set (runs_with starts pasts) channel (run_of next.start after)
@@ -117,20 +104,6 @@ module _ (contents : List (Tag × List ℕ)) (starts : List Start) (actors : ℕ
     none_taken = still_none_taken replies call.tag.actor reply low made.takes_none running.none_taken;
   }
 
-  -- the counts of writes go on too
-  pub writes_go_on : HasWrites (length starts) done pasts → HasWrites (length starts) (done ++ call ∷ []) (slice_set pasts channel after)
-  writes_go_on writes = record {
-    uncollected =
-        All-set IsUncollectedPast pasts channel after
-        (subst IsUncollectedPast (sym made.after_is)
-        (grown_is_uncollected call.tag made.kinds next.past made.uncollected
-        (all_at IsUncollectedPast pasts channel next.past writes.uncollected next.has_past)))
-        writes.uncollected;
-    counted =
-        still_counts_writes (length starts) channel pasts next.past after done call next.is_channel next.has_past made.writes
-        writes.counted;
-  }
-
 pub undrained_runs_go_on : UndrainedRunsGoOn
 undrained_runs_go_on contents starts actors done rest call reply replies pasts channel after numbered running next =
     goes_on contents starts actors done rest call reply replies pasts channel after numbered running next
@@ -169,21 +142,3 @@ undrained_runs_begin contents starts actors =
           sum_of_none (sum_by taken_by) (replicate actors [])
           (All-replicate (λ (list : List Reply). sum_by taken_by list ≡ 0) actors [] refl);
     }
-
-begun_uncollected : (starts : List Start) → All IsUncollectedPast (map no_past starts)
-begun_uncollected [] = All-nil IsUncollectedPast
-begun_uncollected (start ∷ starts) =
-    All-cons IsUncollectedPast [] (map no_past starts) (All-nil (λ (entry : Entry). IsUncollected entry.kind))
-    (begun_uncollected starts)
-
-pub writes_begin : (channels : ℕ) (starts : List Start) → HasWrites channels [] (map no_past starts)
-writes_begin channels starts = record {
-  uncollected = begun_uncollected starts;
-  counted = λ channel past is.
-      all_at (λ (held : List Entry). writes_in held ≡ 0) (map no_past starts) channel past (none_written starts) is;
-}
-  where
-    none_written : (starts : List Start) → All (λ held. writes_in held ≡ 0) (map no_past starts)
-    none_written [] = All-nil (λ (held : List Entry). writes_in held ≡ 0)
-    none_written (start ∷ starts) =
-        All-cons (λ (held : List Entry). writes_in held ≡ 0) [] (map no_past starts) refl (none_written starts)

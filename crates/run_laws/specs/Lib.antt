@@ -1,7 +1,10 @@
 pub mod CountedFaults
 pub mod FirstSenses
+pub mod HandedCounts
 pub mod Headline
+pub mod NeededRoom
 pub mod PrintedRuns
+pub mod RepliedCalls
 pub mod Runs
 pub mod ServedRuns
 pub mod SerialRuns

@@ -15,8 +15,8 @@ use Rattle.ssd_geo.specs.declared.trace.Verb.{Verb}
 use Rattle.ssd_histories.specs.CallsInOrder.{AreNumberedAfter}
 use Rattle.ssd_histories.specs.Lawful.{IsLawful}
 use Rattle.ssd_histories.specs.SerialHistory.{SerialState, most_hints}
-use Rattle.ssd_histories.specs.ServedCalls.{IsServedBy}
 use Rattle.ssd_histories.specs.Start.{Start, data_of}
+use Rattle.run_laws.specs.RepliedCalls.{IsRepliedBy}
 use Rattle.run_laws.specs.Runs.{FaultCounts, Run, runs_with}
 use Rattle.run_laws.specs.SerialRuns.{HasData, HasServed, with_reply}
 
@@ -80,7 +80,7 @@ pub record LeadsOn (contents : List (Tag × List ℕ)) (starts : List Start) (pa
   pub is_channel : channel_of (length starts) call.verb ≡ Some channel
   pub has_start : slice_get starts channel ≡ Some start
   pub has_past : slice_get pasts channel ≡ Some past
-  pub is_served : IsServedBy start contents (length starts) call.tag call.verb reply past after
+  pub is_replied : IsRepliedBy start contents (length starts) call.tag call.verb reply past after
   pub is_lawful : IsLawful start contents after
 
 -- after such a call one more was served

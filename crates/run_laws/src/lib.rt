@@ -11,6 +11,6 @@ pub use serial::{
     serial_runs_begin, serial_runs_go_on, serial_runs_hold, serial_stops_hold, served_fronts_stop,
 };
 pub use serving::{
-    first_steps_are_cut, run_texts_tell_pasts, tags_give_data, uncounted_faults_are_none,
+    run_texts_tell_pasts, stopped_calls_hold, tags_give_data, uncounted_faults_are_none,
     undrained_runs_go_on,
 };

@@ -2,16 +2,17 @@
 ghost use Rattle.run_laws.specs.CountedFaults.{UncountedFaultsAreNone};
 ghost use Rattle.run_laws.specs.PrintedRuns.{RunTextsTellPasts};
 ghost use Rattle.run_laws.specs.ServedRuns.{TagsGiveData, UndrainedRunsGoOn};
-ghost use Rattle.run_laws.specs.StoppedRuns.{FirstStepsAreCut};
+ghost use Rattle.run_laws.specs.StoppedRuns.{StoppedCallsHold};
 
 /// After a call that led its channel on, one more was served.
 pub fn undrained_runs_go_on()
     ensures { UndrainedRunsGoOn }
 {}
 
-/// A call that finds no room for its first entry was cut there.
-pub fn first_steps_are_cut()
-    ensures { FirstStepsAreCut }
+/// The statement holds of a run that stopped in a call, before its first entry or, in a write, after programs that
+/// answered FAIL.
+pub fn stopped_calls_hold()
+    ensures { StoppedCallsHold }
 {}
 
 /// The data of a write are found by its call's tag.

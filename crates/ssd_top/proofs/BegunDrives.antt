@@ -18,7 +18,8 @@ use Rattle.ssd_histories.specs.CallsInOrder.{AreNumberedAfter}
 use Rattle.ssd_top.specs.Handed.{handed_in, history_limit, no_faults, nothing_handed}
 use Rattle.run_laws.specs.WrittenRoom.{HasBlankBlocks, HasWrites}
 use Rattle.run_laws.specs.Serials.{HasSmallSerial, HasSmallSerials}
-use Rattle.run_laws.proofs.UndrainedRuns.{undrained_runs_begin, writes_begin}
+use Rattle.run_laws.proofs.UncollectedCalls.{writes_begin}
+use Rattle.run_laws.proofs.UndrainedRuns.{undrained_runs_begin}
 use Rattle.ssd_geo.specs.Coding as Coding
 use Rattle.ssd_geo.specs.Limits.{Sizes, is_within}
 use Rattle.ssd_geo.specs.Faults.{NeverFell, RoseBy}

@@ -15,16 +15,18 @@ use Rattle.ssd_formats.specs.HistoryText.{is_spelled_entry}
 use Rattle.run_laws.specs.SerialRuns.{with_reply}
 use Rattle.run_laws.specs.ServedRuns.{contents_in, AreStartsOf, IsUndrainedRun, LeadsOn, channel_of}
 use Rattle.ssd_histories.specs.ServedCalls.{IsServedBy}
-use Rattle.run_laws.specs.StoppedRuns.{IsPlainVerb, WouldFindRoom, has_first_room}
+use Rattle.run_laws.specs.StoppedRuns.{IsPlainVerb, has_first_room}
+use Rattle.run_laws.proofs.StoppedRuns.{none_failed}
 use Rattle.run_laws.specs.WrittenRoom.{HasBlankBlocks, HasWrites, IsUncollectedPast, is_write_to, pages_that_fit, writes_to}
 use Rattle.run_laws.proofs.ChangedRuns.{get_set, one_or_other}
 use Rattle.serial_laws.proofs.Lists.{all_at, get_set_other}
 use Rattle.serial_laws.proofs.NumberedTags.{numbered_back}
 use Rattle.run_laws.proofs.TaggedData.{tags_give_data}
-use Rattle.run_laws.proofs.UndrainedRuns.{undrained_runs_go_on, writes_go_on}
+use Rattle.run_laws.proofs.UncollectedCalls.{served_is_replied, writes_go_on}
+use Rattle.run_laws.proofs.UndrainedRuns.{undrained_runs_go_on}
 use Rattle.run_laws.proofs.WrittenRoom.{uncollected_pasts_have_room}
 use Rattle.run_laws.proofs.SparedChannels.{serves_find_room, serves_spare_dies}
-use Rattle.run_laws.proofs.SpelledCalls.{Keeps, serves_spelled}
+use Rattle.run_laws.proofs.SpelledCalls.{Keeps, replies_spelled}
 use Rattle.run_laws.proofs.SpelledPasts.{IsSmallTag}
 use Rattle.run_laws.specs.Serials.{HasSmallSerials}
 use Rattle.ssd_geo.specs.Faults.{RoseBy}
@@ -40,7 +42,7 @@ use Rattle.ssd_geo.specs.declared.tag.Tag.{Tag}
 use Rattle.ssd_geo.specs.declared.trace.Content.{Content}
 use Rattle.ssd_geo.specs.declared.trace.TraceCall.{TraceCall}
 use Rattle.ssd_geo.specs.declared.trace.Verb.{Verb}
-use Rattle.ssd_top.specs.ChannelCalls.{HasOwnData, MayServe, IsRefusedOn, IsServedOn}
+use Rattle.ssd_top.specs.ChannelCalls.{HasOwnData, MayServe, IsRefusedOn, IsServedOn, WouldFindRoom}
 use Rattle.ssd_top.specs.Handed.{no_faults}
 use Rattle.ssd_top.specs.Running.{FitsDrive, HasStopped, IsChannelOf, IsRunning, pasts_of}
 use Rattle.ssd_top.proofs.FittingCalls.{write_fits}
@@ -58,7 +60,7 @@ there_at (x ∷ xs) zero low = (x, refl)
 there_at (x ∷ xs) (suc k) low = there_at xs k (omega arith)
 
 -- a list set to what it has is the same
-set_same : {X : Type 0} (xs : List X) (k : ℕ) (x : X) → slice_get xs k ≡ Some x →
+pub set_same : {X : Type 0} (xs : List X) (k : ℕ) (x : X) → slice_get xs k ≡ Some x →
     slice_set xs k x ≡ xs
 set_same [] k x is = absurd (cc)
 set_same {X} (y ∷ xs) zero x is =
@@ -326,11 +328,14 @@ module _ (input : Input) (worker : WorkerState) (channels : List ChannelState)
           new.past die call.verb made.1) (of_run.counts die low) in
           let kept : Keeps start contents_here of_run.stands.is_past.is_start call.tag small_tag old.past
           new.past serials made.0.is_past.is_lawful of_run.spelled new.past =
-          serves_spelled start contents_here of_run.stands.is_past.is_start call.tag small_tag old.past
+          replies_spelled start contents_here of_run.stands.is_past.is_start call.tag small_tag old.past
           new.past serials made.0.is_past.is_lawful of_run.spelled (length channels) call.verb reply
-          (small_verb worker.shape (length channels) call.verb fits) made.1
-          (subst (λ limit. has_first_room limit old.past call.verb ≡ true) of_run.stands.limit_is
-          serves.0) in
+          (small_verb worker.shape (length channels) call.verb fits)
+          (served_is_replied start contents_here (length channels) call.tag call.verb reply old.past
+          new.past made.1) has_room in
+          let served : IsServedBy start contents_here (length running.starts) call.tag call.verb reply old.past new.past =
+          subst (λ n. IsServedBy start (contents_in input) n call.tag call.verb reply old.past
+          new.past) (sym many_starts) made.1 in
           let next : LeadsOn contents_here running.starts (pasts_of channels) call reply k new.past =
           record {
             start = start;
@@ -338,9 +343,9 @@ module _ (input : Input) (worker : WorkerState) (channels : List ChannelState)
             is_channel = on_start;
             has_start = there.1;
             has_past = has_past;
-            is_served =
-                subst (λ n. IsServedBy start (contents_in input) n call.tag call.verb reply old.past
-                new.past) (sym many_starts) made.1;
+            is_replied =
+                served_is_replied start (contents_in input) (length running.starts) call.tag call.verb
+                reply old.past new.past served;
             is_lawful = made.0.is_past.is_lawful;
           } in
           let set : slice_set (pasts_of channels) k new.past ≡ pasts_of (slice_set channels k new) =
@@ -351,8 +356,8 @@ module _ (input : Input) (worker : WorkerState) (channels : List ChannelState)
           (undrained_runs_go_on contents_here running.starts input.calls.actors done rest call reply
           replies (pasts_of channels) k new.past numbered running.served next))
           (subst (λ pasts. HasWrites (length running.starts) (done ++ call ∷ []) pasts) set
-          (writes_go_on contents_here running.starts input.calls.actors done rest call reply
-          replies (pasts_of channels) k new.past numbered running.served next running.writes))
+          (writes_go_on start contents_here (length running.starts) k done call reply
+          (pasts_of channels) old.past new.past on_start has_past served running.writes))
 
       -- where its channel's history has no room, the run stops
       pub stops : (new : ChannelState) (entries : ℕ) →
@@ -387,6 +392,8 @@ module _ (input : Input) (worker : WorkerState) (channels : List ChannelState)
                 replies pasts) (sym same) running.served)
                 (subst (λ pasts. HasWrites (length running.starts) done pasts) (sym same)
                 running.writes);
+            past = old.past;
+            has_past = subst (λ pasts. slice_get pasts k ≡ Some old.past) (sym same) has_past;
             stops = record {
               is_plain =
                   all_at (λ (other : TraceCall). IsPlainVerb other.verb) input.calls.calls
@@ -398,7 +405,9 @@ module _ (input : Input) (worker : WorkerState) (channels : List ChannelState)
               past = old.past;
               has_start = there.1;
               has_past = subst (λ pasts. slice_get pasts k ≡ Some old.past) (sym same) has_past;
-              finds_room = finds_room call.verb refl;
+              failed = [];
+              now_is = none_failed (length running.starts) call.tag call.verb old.past;
+              is_lawful = of_run.stands.is_past.is_lawful;
               has_length = sym full.entries_are;
               no_room =
                   subst (λ limit. has_first_room limit old.past call.verb ≡ false)

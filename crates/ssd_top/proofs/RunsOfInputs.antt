@@ -11,9 +11,8 @@ use Rattle.chan_calls.specs.Workers.{WorkerState}
 use Rattle.chan_state.specs.ChannelState.{ChannelState}
 use Rattle.history_text.specs.Places.{AsLong}
 use Rattle.run_laws.proofs.SerialHeadline.{serial_runs_hold}
-use Rattle.run_laws.proofs.ServedFronts.{served_fronts_stop}
 use Rattle.run_laws.proofs.SpelledHistories.{IsSpelledPast, spelled_histories}
-use Rattle.run_laws.proofs.StoppedRuns.{first_steps_are_cut}
+use Rattle.run_laws.proofs.StoppedRuns.{stopped_calls_hold}
 use Rattle.run_laws.specs.Headline.{AreCounted, CountsAll, Headline}
 use Rattle.run_laws.specs.Runs.{Run, runs_with, text_of_run}
 use Rattle.run_laws.specs.SerialRuns.{ChannelsHold, HasCalls, IsHeadlineOfStop, IsHeadlineOfWhole}
@@ -37,6 +36,7 @@ use Rattle.ssd_geo.specs.declared.reply.Reply.{Reply}
 use Rattle.ssd_geo.specs.declared.trace.TraceCall.{TraceCall}
 use Rattle.ssd_top.proofs.BegunDrives.{range_is}
 use Rattle.ssd_top.proofs.InputChannels.{as_many_starts}
+use Rattle.ssd_top.proofs.RunningCalls.{set_same}
 use Rattle.ssd_top.specs.Handed.{IsRunOf, counted_at_end, no_faults}
 use Rattle.ssd_top.specs.Printed.{text_of}
 use Rattle.ssd_top.specs.Running.{IsRunning, pasts_of}
@@ -202,10 +202,9 @@ is_of_run input worker channels replies (Some stop) stopped =
     let running = stopped.running in
     let served = running.served.has_served in
     let holds : IsHeadlineOfStop input.head (run_of running) stop.0 stop.1 =
-    served_fronts_stop input.head (run_of running) running.served.hints running.served.hints stop.0 stop.1 stopped.done stopped.rest stopped.call
-    (has_calls running) (hold running) stopped.are_calls served
-    (first_steps_are_cut (contents_in input) running.starts (pasts_of channels) running.served.hints (hints_in replies - most_hints)
-    stopped.call stop.0 stop.1 stopped.stops) in
+    stopped_calls_hold input.head (run_of running) (pasts_of channels) stopped.done stopped.rest stopped.call stop.0 stop.1
+    stopped.past (has_calls running) (hold running) stopped.are_calls running.served stopped.stops
+    (sym (set_same (pasts_of channels) stop.0 stopped.past stopped.has_past)) refl in
     record {
       fits = record {
         as_many_actors = served.as_many_actors;

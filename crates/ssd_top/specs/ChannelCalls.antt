@@ -5,11 +5,12 @@ use Rattle.std.specs.Prelude.{ℕ, ◌≡◌, ◌⊎◌, true, false, IsTrue, Li
 use Rattle.chan_calls.specs.Workers.{WorkerState, WorksFor}
 use Rattle.chan_state.specs.ChannelState.{ChannelState, StandsFor}
 use Rattle.ssd_histories.specs.ServedCalls.{HasFoundNone, HasReadPage, HasWritten, IsServedBy}
-use Rattle.run_laws.specs.StoppedRuns.{WouldFindRoom, has_first_room}
+use Rattle.run_laws.specs.StoppedRuns.{has_first_room}
 use Rattle.ssd_histories.specs.HistoryRoom.{has_look_room, has_step_room}
 use Rattle.ssd_histories.specs.Room.{has_host_room}
 use Rattle.ssd_histories.specs.Start.{Start, data_of}
 use Rattle.ssd_formats.specs.TraceText.{content_bytes}
+use Rattle.ssd_geo.specs.declared.entry.Entry.{Entry}
 use Rattle.ssd_geo.specs.declared.reply.Reply.{Reply}
 use Rattle.ssd_geo.specs.declared.stop.StepStop.{StepStop}
 use Rattle.ssd_geo.specs.declared.tag.Tag.{Tag}
@@ -35,6 +36,11 @@ pub record MayWrite (worker : WorkerState) (channel : ChannelState) (tag : Tag) 
   pub usable : MayUse worker channel
   pub own_data : data_of usable.contents tag ≡ content_bytes worker.shape.bytes content
   pub finds_room : IsTrue (has_host_room usable.start.base channel.past)
+
+-- a write would find room for the host
+abbrev pub WouldFindRoom : Start → List Entry → Verb → Type 0
+WouldFindRoom start past (Verb.Write page content) = IsTrue (has_host_room start.base past)
+WouldFindRoom start past verb = ⊤
 
 -- so it does with the data of a call, and a write finds room
 pub record MayServe (worker : WorkerState) (channel : ChannelState) (tag : Tag) (verb : Verb)

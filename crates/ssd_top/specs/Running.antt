@@ -106,7 +106,9 @@ pub record HasStopped (input : Input) (worker : WorkerState) (channels : List Ch
   pub call : TraceCall
   pub are_calls : input.calls.calls ≡ done ++ call ∷ rest
   pub running : IsRunning input worker channels done replies
-  pub stops : StopsAt running.starts (pasts_of channels) call channel entries
+  pub past : List Entry
+  pub has_past : slice_get (pasts_of channels) channel ≡ Some past
+  pub stops : StopsAt (contents_in input) running.starts (pasts_of channels) call channel entries past
 
 -- whatever run it was the next call of, that run has stopped there, with these channels
 abbrev pub StopsInHistory : WorkerState → List ChannelState → List ChannelState → TraceCall →
