@@ -64,8 +64,7 @@ module _ (tag : Tag) (row : ℕ) (slot : Slot) (serial : ℕ) (closed : Bool) (s
   pub failed_steps_lead : AreStepsFrom tag past failed_steps (entry_of tag leave_kind ∷ has_failed)
   failed_steps_lead =
       subst (λ (steps : List CallStep). AreStepsFrom tag past steps (entry_of tag leave_kind ∷ has_failed))
-      (sym (append_assoc first_steps (fault_step ∷ []) (leave_step ∷ [])))
-      (
+      (sym (append_assoc first_steps (fault_step ∷ []) (leave_step ∷ []))) (
         refl,
         refl,
         senses_lead tag (length past) senses looked (fault_step ∷ leave_step ∷ []) (entry_of tag leave_kind ∷ has_failed)

@@ -278,20 +278,17 @@ module _ (start : Start) (contents : List (Tag × List ℕ)) (is_start : IsStart
           IsLawfulPast (entry_of tag last ∷ past) → found_room start.limit (entry_of tag last ∷ past) ≡ true →
           Keeps (entry_of tag last ∷ past)
       by_last row past (Kind.Write named slot) held is here found =
-          let fits = step_fits past (newest_fits (Kind.Write named slot) past found) in
-          (
+          let fits = step_fits past (newest_fits (Kind.Write named slot) past found) in (
             write_spelled start is_start contents past held (short_of past 1 fits) tag small named slot here.1,
             one_fits (entry_of tag (Kind.Write named slot)) past fits,
           )
       by_last row past (Kind.BadWrite named slot die fault) held is here found =
-          let fits = step_fits past (newest_fits (Kind.BadWrite named slot die fault) past found) in
-          (
+          let fits = step_fits past (newest_fits (Kind.BadWrite named slot die fault) past found) in (
             bad_write_spelled start is_start contents past held (short_of past 1 fits) tag small named slot die fault here.1,
             one_fits (entry_of tag (Kind.BadWrite named slot die fault)) past fits,
           )
       by_last row past (Kind.Refused named worn) held is here found =
-          let fits = step_fits past (newest_fits (Kind.Refused named worn) past found) in
-          (
+          let fits = step_fits past (newest_fits (Kind.Refused named worn) past found) in (
             refused_spelled start is_start contents past held (short_of past 1 fits) tag small named worn here.1,
             one_fits (entry_of tag (Kind.Refused named worn)) past fits,
           )
@@ -302,8 +299,7 @@ module _ (start : Start) (contents : List (Tag × List ℕ)) (is_start : IsStart
           IsLawfulPast (entry_of tag last ∷ before) → found_room start.limit (entry_of tag last ∷ before) ≡ true →
           Keeps (entry_of tag last ∷ before)
       by_age die sb amount (Kind.Age named block by) fine is here found =
-          let fits = step_fits before (newest_fits (Kind.Age named block by) before found) in
-          (
+          let fits = step_fits before (newest_fits (Kind.Age named block by) before found) in (
             age_spelled start is_start contents before spelled (short_of before 1 fits) tag small named block by
                 (low_amount named block by is) here.1,
             one_fits (entry_of tag (Kind.Age named block by)) before fits,
@@ -313,8 +309,7 @@ module _ (start : Start) (contents : List (Tag × List ℕ)) (is_start : IsStart
           low_amount named block by is = let same = same_amount named block by die sb amount is in omega (arith, same, fine)
       by_age die sb amount (Kind.FaultAge named block by) fine is here found =
           let fits = step_fits before (newest_fits (Kind.FaultAge named block by) before found) in
-          let same = same_amount named block by die sb amount is in
-          (
+          let same = same_amount named block by die sb amount is in (
             fault_age_spelled start is_start contents before spelled (short_of before 1 fits) tag small named block by
                 (omega (arith, same, fine)) here.1,
             one_fits (entry_of tag (Kind.FaultAge named block by)) before fits,
