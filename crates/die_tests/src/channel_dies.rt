@@ -114,17 +114,6 @@ fn a_weak_block_answers_fail(rt: HostRuntime) -> Result<(), Fail> {
 }
 
 #[test]
-fn an_erased_superblock_is_empty(rt: HostRuntime) -> Result<(), Fail> {
-    let mut dies = simulated(rt.alloc(), &[])?;
-    assert_eq!(rt; program_stripe(&mut dies), PROGRAMMED);
-    assert_eq!(rt; erase(&mut dies), EraseEnd::Erased);
-    for place in [PARITY, FIRST_PLACE, SECOND_PLACE] {
-        assert_eq!(rt; sense(&mut dies, place, 0)?, ONES, "die {}", place.die);
-    }
-    Ok(())
-}
-
-#[test]
 fn a_superblock_is_erased_after_a_fault(rt: HostRuntime) -> Result<(), Fail> {
     let alloc = rt.alloc();
     let (zero, one) = (failing(alloc, &[])?, failing(alloc, &[1])?);
