@@ -1,0 +1,2 @@
+pub mod EachDie
+pub mod MountedDies
