@@ -26,8 +26,12 @@ counts_kept start past entry die old new none works loads counts =
       work_rose =
           subst (λ (n : ℕ). RoseBy n (count_at start.work_faults die) new.work_count) (sym as_many)
           (subst (λ (n : ℕ). RoseBy (faults_of die past) (count_at start.work_faults die) n) (sym works) counts.work_rose);
-      load_stays = omega (arith, counts.load_stays, loads);
+      work_stays = λ no_faults. works ∙ counts.work_stays (sym as_many ∙ no_faults);
+      load_stays = loads ∙ counts.load_stays;
     }
+
+some_fault : (faults : ℕ) → 1 + faults ≡ 0 → ⊥
+some_fault faults none = omega (arith, none)
 
 rose_again : (before faults mid now top : ℕ) → min (before + faults) top ≤ mid → min (mid + 1) top ≤ now
     → min (before + (1 + faults)) top ≤ now
@@ -47,5 +51,6 @@ counts_more start past entry die old new told rose loads counts =
           subst (λ (n : ℕ). RoseBy n (count_at start.work_faults die) new.work_count) (sym one_more)
           (rose_again (count_at start.work_faults die) (faults_of die past) old.work_count new.work_count greatest_count
           counts.work_rose rose);
-      load_stays = omega (arith, counts.load_stays, loads);
+      work_stays = λ no_faults. absurd (some_fault (faults_of die past) (sym one_more ∙ no_faults));
+      load_stays = loads ∙ counts.load_stays;
     }

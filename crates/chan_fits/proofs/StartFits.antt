@@ -56,7 +56,8 @@ start_fits start contents dies sum is_start tell sum_is = record {
       omega (arith, due.erases_due die sb lt within sound);
   counts = λ die lt. record {
     work_rose = none_more (count_at start.work_faults die) (die_at dies die).work_count greatest_count (tell die lt).works_are;
-    load_stays = omega (arith, (tell die lt).loads_are);
+    work_stays = λ no_faults. (tell die lt).works_are;
+    load_stays = (tell die lt).loads_are;
   };
   sum_is = sum_is ∙ sum_at_start start contents is_start;
 }

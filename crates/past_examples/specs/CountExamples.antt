@@ -1,5 +1,5 @@
 -- Which counts of faults fit a history? Each entry that tells of a failed call of a die raises the die's work count by one at
--- least; a program or an erase that answers FAIL doesn't. No count falls, and a full one stays.
+-- least; a program or an erase that answers FAIL doesn't. A full count stays, and so does one of which no entry tells.
 use Rattle.std.specs.Prelude.{ℕ, List, [], ◌∷◌}
 use Rattle.ssd_geo.specs.Faults.{greatest_count}
 use Rattle.ssd_histories.specs.History.{past_of}

@@ -11,7 +11,7 @@ use Rattle.ssd_histories.specs.CallSteps.{failed_die}
 use Rattle.ssd_geo.specs.Coding.{matrix_of, word_bytes_in}
 use Rattle.ssd_geo.specs.Codewords.{IsCodeword}
 use Rattle.ssd_geo.specs.PageWord.{code_in}
-use Rattle.ssd_geo.specs.Faults.{NeverFell, RoseBy}
+use Rattle.ssd_geo.specs.Faults.{RoseBy}
 use Rattle.ssd_histories.specs.FollowedViews.{FollowsTold, view_of}
 use Rattle.ssd_histories.specs.Lawful.{IsLawful}
 use Rattle.ssd_geo.specs.Limits.{is_level, is_within}
@@ -111,7 +111,9 @@ pub record IsPastOf (start : Start) (contents : List (Tag × List ℕ)) (past : 
 abbrev pub view_told : Start → List Entry → Option PolicyView
 view_told start past = option_map (λ view. view_of start.base view past) start.view
 
--- the counts of faults of a die after a past: neither fell, and the work count rose by the entries that tell of its faults
+-- the counts of faults of a die after a past: the work count rose by at least the entries that tell of its faults, and stays
+-- where none does; the load count stays
 pub record CountsFaults (start : Start) (past : List Entry) (die work load : ℕ) : Type 0 where
   pub work_rose : RoseBy (faults_of die past) (count_at start.work_faults die) work
-  pub load_stays : NeverFell (count_at start.load_faults die) load
+  pub work_stays : faults_of die past ≡ 0 → work ≡ count_at start.work_faults die
+  pub load_stays : load ≡ count_at start.load_faults die
