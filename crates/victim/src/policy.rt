@@ -23,3 +23,15 @@ pub trait Policy: Drop {
         requires { sb < 256 }
         ensures { told self.new ≡ option_map (λ view. view_after_erase view sb) (told self.old) };
 }
+
+impl Policy for Box<dyn Policy + Send> {
+    ghost told = { λ boxed. (Policy-box boxed).told boxed.value };
+
+    fn pick(&mut self, table: &[SbInfo]) -> u16 {
+        (**self).pick(table)
+    }
+
+    fn erased(&mut self, sb: u16) {
+        (**self).erased(sb);
+    }
+}
