@@ -1,2 +1,3 @@
 pub mod EachDie
+pub mod HandedDies
 pub mod MountedDies

@@ -56,12 +56,14 @@ failed_counts head failed number old new is = elim (cases_lt number failed) [
 
 -- how the mounts were counted
 pub counts_mounts : {T : Type 0} (head : ImageHead) (olds news : List DieState) (result : Result T MountStop)
-    → MountsDies head olds news result → CountsMounts olds news result
-counts_mounts head olds news (Ok done) each =
+    → die_count head ≤ length olds → MountsDies head olds news result → CountsMounts olds news result
+counts_mounts head olds news (Ok done) enough each =
     becomes (IsMountedBelow head (die_count head)) (λ number old new. CountsNone old new) olds news (below_counts head (die_count head)) each
-counts_mounts head olds news (Err (Failed die)) both =
-    becomes (IsMountedUpTo head die) (CountsLoad die) olds news (failed_counts head die) both.1
-counts_mounts head olds news (Err Memory) some =
+counts_mounts head olds news (Err (Failed die)) enough both = record {
+  in_list = omega (arith, both.0, enough);
+  counts = becomes (IsMountedUpTo head die) (CountsLoad die) olds news (failed_counts head die) both.1;
+}
+counts_mounts head olds news (Err Memory) enough some =
     becomes (IsMountedBelow head some.0) (λ number old new. CountsNone old new) olds news (below_counts head some.0) some.2
 
 blank_of : (told : Option (List BlockCells)) (P : Type 0) → is_some told ≡ true → IfSome told (λ blocks. P) → P

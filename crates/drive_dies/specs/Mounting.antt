@@ -107,8 +107,13 @@ pub record CountsLoad (failed number : ℕ) (old new : DieState) : Type 0 where
   pub rose : number ≡ failed → Rose old.load_count new.load_count
   pub others : number ≢ failed → new.load_count ≡ old.load_count
 
+-- how the counts of a list of dies are after mounts that the die of this number ended: it is one of the list
+pub record CountsFailure (failed : ℕ) (olds news : List DieState) : Type 0 where
+  pub in_list : failed < length olds
+  pub counts : EachBecomes (CountsLoad failed) olds news
+
 -- how the mounts of dies were counted: as a load by the die that failed, if one did, and by no other
 abbrev pub CountsMounts : {T : Type 0} → List DieState → List DieState → Result T MountStop → Type 0
 CountsMounts olds news (Ok done) = EachBecomes (λ number old new. CountsNone old new) olds news
-CountsMounts olds news (Err (Failed die)) = EachBecomes (CountsLoad die) olds news
+CountsMounts olds news (Err (Failed die)) = CountsFailure die olds news
 CountsMounts olds news (Err Memory) = EachBecomes (λ number old new. CountsNone old new) olds news
