@@ -124,7 +124,8 @@ impl<D: Die> Dies<D> {
 
     /// Gives the dies back.
     pub fn into_dies(self) -> Vec<D>
-        ensures { map D.state result.items ≡ self.dies }
+        ensures dies { map D.state result.items ≡ self.dies }
+        ensures count { length self.dies ≡ self.shape.dies }
     {
         let Dies { dies, .. } = self;
         dies

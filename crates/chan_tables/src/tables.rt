@@ -1,7 +1,7 @@
 // The tables of a channel, and what may be asked of them.
 ghost use Rattle.std.specs.Prelude.{◌≡◌, ◌+◌, ◌^◌, ◌<◌, ◌≤◌, ℕ, [], All, IfOk, OnOk, length, replicate};
 ghost use Rattle.ssd_histories.specs.Blocks.{AreSound};
-ghost use Rattle.ssd_histories.specs.History.{history_of};
+ghost use Rattle.ssd_histories.specs.History.{history_of, open_looks};
 ghost use Rattle.ssd_histories.specs.PageMap.{row_at};
 ghost use Rattle.ssd_geo.specs.Superblock.{slots_of};
 ghost use Rattle.ssd_geo.specs.declared.row.Row.TheVariants.{Empty};
@@ -119,6 +119,13 @@ impl Tables {
         ensures { result.now ≡ self.now.shape }
     {
         &self.shape
+    }
+
+    /// The open looks are those that the past leaves open.
+    pub fn keeps_looks(&self)
+        ensures { self.now.looks ≡ open_looks self.now.past }
+    {
+        let _ = &self.looks;
     }
 
     /// The history, oldest entry first.

@@ -151,7 +151,8 @@ impl Ladder {
     /// The word of the page that was recovered.
     pub fn word(&self) -> &[u8]
         requires { IsTrue (is_recovered (state_in self.now)) }
-        ensures { result.now ≡ word_recovered (state_in self.now) }
+        ensures word { result.now ≡ word_recovered (state_in self.now) }
+        ensures length { length result.now ≡ word_bytes_in self.now.shape }
     {
         self.work.word()
     }
