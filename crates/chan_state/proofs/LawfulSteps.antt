@@ -1,33 +1,32 @@
 -- The entry of each step is lawful over the past of a channel that stands for a start.
-use Rattle.std.proofs.Common.{◌≡◌, ℕ, ◌<◌, nat_lt, ◌&&◌, ◌||◌, not, Bool, true, false, List, [], ◌∷◌, ◌∙◌, ap, Option, Some, None, refl, arith}
+use Rattle.std.proofs.Common.{◌≡◌, ℕ, ◌<◌, nat_lt, ◌&&◌, ◌||◌, not, Bool, true, false, List, ap, Option, Some, None, refl, arith}
 use Rattle.std.specs.Prelude.{IsTrue, IsFalse, IsSome, IsSomeAnd, ℤ}
-use Rattle.std.specs.List.{list_any}
 use Rattle.std.proofs.lemmas.Bool.Decides.{nat_tests}
 use Rattle.std.proofs.lemmas.List.FromFn.{get_or-map-range_with_len}
 use Rattle.ssd_histories.specs.Blocks as Blocks
-use Rattle.ssd_histories.specs.History.{look_by, open_look}
+use Rattle.ssd_histories.specs.History.{open_look}
 use Rattle.ssd_geo.specs.Ladder.{LadderState, asks, has_answer}
-use Rattle.ssd_histories.specs.Lawful.{IsLawfulEntry, IsLawfulLeave, IsLawfulSense, has_fault_sense, is_closed_page}
+use Rattle.ssd_histories.specs.Lawful.{IsLawfulEntry, IsLawfulLeave, IsLawfulRefused, IsLawfulSense, has_fault_sense, is_closed_page}
 use Rattle.ssd_histories.specs.PageMap.{row_at}
-use Rattle.ssd_histories.specs.PastBlocks.{blocks_of, erases_of}
+use Rattle.ssd_histories.specs.PastBlocks.{blocks_of}
 use Rattle.ssd_histories.specs.PastRows.{row_of, rows_of}
 use Rattle.ssd_histories.specs.Ranges.{has_place, has_row, has_slot}
 use Rattle.ssd_histories.specs.SerialCalls.{entry_of}
 use Rattle.ssd_geo.specs.Stripe.{is_closed, stripe_of_index}
-use Rattle.ssd_histories.specs.WeakDies.{dies_of_program, is_none_weak, is_weak}
-use Rattle.ssd_geo.specs.WeakBlocks.{makes_weak}
 use Rattle.ssd_geo.specs.declared.base.BlockBase.{BlockBase}
 use Rattle.ssd_geo.specs.declared.base.ChannelBase.{ChannelBase}
 use Rattle.ssd_geo.specs.declared.entry.Entry.{Entry}
 use Rattle.ssd_geo.specs.declared.kind.Kind.{Kind}
-use Rattle.ssd_geo.specs.declared.look.Look.{Look}
 use Rattle.ssd_geo.specs.declared.place.Place.{Place}
 use Rattle.ssd_geo.specs.declared.row.Row.{Row}
 use Rattle.ssd_geo.specs.declared.shape.Shape.{Shape}
 use Rattle.ssd_geo.specs.declared.slot.Slot.{Slot}
 use Rattle.ssd_geo.specs.declared.tag.Tag.{Tag}
 use Rattle.ssd_histories.proofs.UsedSlots.{block_is}
-use Rattle.chan_state.specs.TablesState.{is_closed_row}
+use Rattle.chan_dies.specs.declared.ends.ProgramEnd.{ProgramEnd}
+use Rattle.chan_fits.proofs.EndedPrograms.{IsLawfulProgram}
+use Rattle.chan_state.specs.Kept.{kind_of_write}
+use Rattle.chan_tables.specs.TablesState.{is_closed_row}
 
 -- both tests hold
 pub both : (a b : Bool) → a ≡ true → b ≡ true → (a && b) ≡ true
@@ -41,11 +40,6 @@ pub some_and : {A : Type 0} (P : A → Type 0) (o : Option A) → IsSome o → (
 some_and P None some h = cc
 some_and P (Some x) some h = h x
 
--- an open look of a call is open
-pub open_of_call : (tag : Tag) (o : Option (Tag × Look)) → IsSome (look_by tag o) → IsSome o
-open_of_call tag None some = some
-open_of_call tag (Some found) some = refl
-
 pub lawful_trim : (state : ℕ → LadderState) (base : ChannelBase) (past : List Entry) (tag : Tag) (row : ℕ) → row < base.shape.rows
     → IsLawfulEntry state base past (entry_of tag (Kind.Trim row))
 lawful_trim state base past tag row lt = record { in_range = below_is row base.shape.rows lt; meets = tt }
@@ -57,16 +51,12 @@ lawful_age state base past tag die sb amount low within = record {
   meets = tt;
 }
 
-pub lawful_leave : (state : ℕ → LadderState) (base : ChannelBase) (past : List Entry) (tag : Tag) (at : ℕ) → IsSome (open_look past tag at) → IsTrue (has_answer (state at))
-    → IsLawfulEntry state base past (entry_of tag (Kind.Leave at))
+pub lawful_leave : (state : ℕ → LadderState) (base : ChannelBase) (past : List Entry) (tag : Tag) (at : ℕ) → IsSome (open_look past tag at)
+    → IsTrue (has_answer (state at) || has_fault_sense past at) → IsLawfulEntry state base past (entry_of tag (Kind.Leave at))
 lawful_leave state base past tag at some answered = record {
   in_range = refl;
-  meets = some_and (λ look. IsLawfulLeave (state at) past at) (open_look past tag at) some (λ look. first (has_answer (state at)) (has_fault_sense past at) answered);
+  meets = some_and (λ look. IsLawfulLeave (state at) past at) (open_look past tag at) some (λ look. answered);
 }
-  where
-    first : (a b : Bool) → a ≡ true → (a || b) ≡ true
-    first true b h = refl
-    first false b h = absurd (grind arith)
 
 pub lawful_sense : (state : ℕ → LadderState) (base : ChannelBase) (past : List Entry) (tag : Tag) (at : ℕ) (place : Place) (level : ℤ) → IsTrue (has_place base.shape place)
     → IsSome (open_look past tag at) → IsFalse (has_fault_sense past at) → state at ≡ asks place level
@@ -75,6 +65,22 @@ lawful_sense state base past tag at place level range some none asked = record {
   in_range = range;
   meets = some_and (λ look. IsLawfulSense (state at) past at place level) (open_look past tag at) some
       (λ look. record { no_fault = ap {B = Bool} (λ (b : Bool). not b) none; is_asked = asked });
+}
+
+pub lawful_fault_sense : (state : ℕ → LadderState) (base : ChannelBase) (past : List Entry) (tag : Tag) (at : ℕ) (place : Place) (level : ℤ) → IsTrue (has_place base.shape place)
+    → IsSome (open_look past tag at) → IsFalse (has_fault_sense past at) → state at ≡ asks place level
+    → IsLawfulEntry state base past (entry_of tag (Kind.FaultSense at place level))
+lawful_fault_sense state base past tag at place level range some none asked = record {
+  in_range = range;
+  meets = some_and (λ look. IsLawfulSense (state at) past at place level) (open_look past tag at) some
+      (λ look. record { no_fault = ap {B = Bool} (λ (b : Bool). not b) none; is_asked = asked });
+}
+
+pub lawful_fault_age : (state : ℕ → LadderState) (base : ChannelBase) (past : List Entry) (tag : Tag) (die sb amount : ℕ) → die < base.shape.dies → sb < base.shape.superblocks
+    → IsLawfulEntry state base past (entry_of tag (Kind.FaultAge die sb amount))
+lawful_fault_age state base past tag die sb amount low within = record {
+  in_range = both (nat_lt die base.shape.dies) (nat_lt sb base.shape.superblocks) (below_is die base.shape.dies low) (below_is sb base.shape.superblocks within);
+  meets = tt;
 }
 
 -- a row of the page map
@@ -101,24 +107,34 @@ lawful_look state base past tag row found lt is range = record {
   meets = record { is_found = is; is_said = closed_is base past found range };
 }
 
--- no die is weak where no block is listed
-pub none_weak_listed : (base : ChannelBase) (past : List Entry) (sb : ℕ) (dies : List ℕ) → base.weak ≡ [] → IsTrue (is_none_weak base past sb dies)
-none_weak_listed base past sb dies none = ap {B = Bool} (λ (b : Bool). not b) (none_of dies)
-  where
-    no_die : (die : ℕ) → is_weak base past sb die ≡ false
-    no_die die = ap {B = Bool} (list_any (makes_weak base.channel die sb (erases_of base past sb))) none
+-- ---- writes
 
-    none_of : (dies : List ℕ) → list_any (is_weak base past sb) dies ≡ false
-    none_of [] = refl
-    none_of (die ∷ dies) = ap {B = Bool} (λ (b : Bool). b || list_any (is_weak base past sb) dies) (no_die die) ∙ none_of dies
+pub lawful_refused : (state : ℕ → LadderState) (base : ChannelBase) (past : List Entry) (tag : Tag) (row : ℕ) (worn : Bool) → row < base.shape.rows
+    → IsLawfulRefused base past worn → IsLawfulEntry state base past (entry_of tag (Kind.Refused row worn))
+lawful_refused state base past tag row worn lt is = record { in_range = below_is row base.shape.rows lt; meets = is }
 
-pub lawful_write : (state : ℕ → LadderState) (base : ChannelBase) (past : List Entry) (tag : Tag) (row : ℕ) (slot : Slot) → row < base.shape.rows → IsTrue (has_slot base.shape slot)
-    → IsTrue (Blocks.blocks_have_room (blocks_of base past)) → Blocks.next_slot_of (blocks_of base past) ≡ Some slot → base.weak ≡ []
-    → IsLawfulEntry state base past (entry_of tag (Kind.Write row slot))
-lawful_write state base past tag row slot lt range room next none = record {
+-- the die that a program of a slot stopped at, if it stopped, is one of the channel's
+abbrev pub StopsInRange : ChannelBase → ProgramEnd → Type 0
+StopsInRange base ProgramEnd.Programmed = Unit {0}
+StopsInRange base (ProgramEnd.Failed die) = die < base.shape.dies
+StopsInRange base (ProgramEnd.Fault die) = die < base.shape.dies
+
+pub lawful_write : (state : ℕ → LadderState) (base : ChannelBase) (past : List Entry) (tag : Tag) (row : ℕ) (slot : Slot) (end : ProgramEnd) → row < base.shape.rows
+    → IsTrue (has_slot base.shape slot) → IsTrue (Blocks.blocks_have_room (blocks_of base past)) → IsLawfulProgram base past slot end → StopsInRange base end
+    → IsLawfulEntry state base past (entry_of tag (kind_of_write row slot end))
+lawful_write state base past tag row slot ProgramEnd.Programmed lt range room programmed stops = record {
   in_range = both (nat_lt row base.shape.rows) (has_slot base.shape slot) (below_is row base.shape.rows lt) range;
-  meets = record {
-    has_room = room;
-    is_programmed = record { is_next = next; none_weak = none_weak_listed base past slot.sb (dies_of_program base.shape.dies slot) none };
-  };
+  meets = record { has_room = room; is_programmed = programmed };
+}
+lawful_write state base past tag row slot (ProgramEnd.Failed die) lt range room failed stops = record {
+  in_range =
+      both (nat_lt row base.shape.rows && has_slot base.shape slot) (nat_lt die base.shape.dies)
+      (both (nat_lt row base.shape.rows) (has_slot base.shape slot) (below_is row base.shape.rows lt) range) (below_is die base.shape.dies stops);
+  meets = record { has_room = room; is_failed = failed };
+}
+lawful_write state base past tag row slot (ProgramEnd.Fault die) lt range room failed stops = record {
+  in_range =
+      both (nat_lt row base.shape.rows && has_slot base.shape slot) (nat_lt die base.shape.dies)
+      (both (nat_lt row base.shape.rows) (has_slot base.shape slot) (below_is row base.shape.rows lt) range) (below_is die base.shape.dies stops);
+  meets = record { has_room = room; is_failed = failed };
 }

@@ -1,41 +1,14 @@
--- When is the row of a look lost? Where its page can't be recovered, and the row is as the look found it.
-use Rattle.std.specs.Prelude.{ℕ, ◌≡◌, ◌≢◌, IsTrue, IsFalse, List, slice_set, ⊤}
+-- When may the row of a look be made lost, and for which starts and contents does the channel stand then?
+use Rattle.std.specs.Prelude.{ℕ, ◌≡◌, IsFalse, List, Option}
+use Rattle.chan_tables.specs.TablesState.{ends_uncorrectable}
 use Rattle.ssd_geo.specs.Coding.{coding_of}
 use Rattle.ssd_geo.specs.Ladder.{uncorrectable}
-use Rattle.ssd_histories.specs.Lawful.{page_looked_at}
-use Rattle.ssd_histories.specs.PageMap.{names_within, row_at}
 use Rattle.ssd_histories.specs.PastPages.{ladder_of}
 use Rattle.ssd_histories.specs.Start.{Start}
-use Rattle.ssd_geo.specs.declared.kind.Kind.{Kind}
-use Rattle.ssd_geo.specs.declared.look.Look.{Look}
-use Rattle.ssd_geo.specs.declared.row.Row.{Row}
+use Rattle.ssd_geo.specs.declared.policy_view.PolicyView.{PolicyView}
 use Rattle.ssd_geo.specs.declared.tag.Tag.{Tag}
 use Rattle.chan_state.specs.ChannelState.{ChannelState, StandsFor}
-use Rattle.chan_state.specs.Copying.{KeepsPage}
 use Rattle.chan_state.specs.Steps.{IsOpen}
-use Rattle.chan_state.specs.TablesState.{ends_uncorrectable}
-use Rattle.chan_state.specs.declared.answers.CondemnAnswer.{CondemnAnswer}
-use Rattle.chan_state.specs.declared.answers.CondemnAnswer.TheVariants.{Changed, Condemned}
-
--- when each answer to a condemnation comes, over the rows: just one of the cases holds
-abbrev pub IsCondemnAnswer : List Row → Look → CondemnAnswer → Type 0
-IsCondemnAnswer rows look (Changed row) = (row ≡ row_at rows look.row) × (row ≢ page_looked_at look)
-IsCondemnAnswer rows look Condemned = KeepsPage rows look
-
--- the entry that it adds
-abbrev pub kind_of_condemn : ℕ → CondemnAnswer → Kind
-kind_of_condemn at (Changed row) = Kind.Changed at row
-kind_of_condemn at Condemned = Kind.Condemn at
-
--- the page map after it
-abbrev pub rows_after_condemn : List Row → Look → CondemnAnswer → List Row
-rows_after_condemn rows look (Changed row) = rows
-rows_after_condemn rows look Condemned = slice_set rows look.row Row.Lost
-
--- what an answer to it names is one of so many superblocks, of so many slots each
-abbrev pub NamesInRange : ℕ → ℕ → CondemnAnswer → Type 0
-NamesInRange superblocks slots (Changed row) = IsTrue (names_within superblocks slots row)
-NamesInRange superblocks slots Condemned = ⊤
 
 -- a look's row may be condemned: the look is open, and no entry ended its copy as that of a page that can't be recovered
 pub record MayCondemn (channel : ChannelState) (tag : Tag) (at : ℕ) : Type 0 where
@@ -45,5 +18,5 @@ pub record MayCondemn (channel : ChannelState) (tag : Tag) (at : ℕ) : Type 0 w
 -- where the ladder of the look can't recover the page, the channel goes on standing
 abbrev pub CondemnsFor : ChannelState → ChannelState → ℕ → Type 0
 CondemnsFor old new at =
-    (start : Start) (contents : List (Tag × List ℕ)) → StandsFor old start contents →
-    ladder_of (coding_of start.base) start contents old.past at ≡ uncorrectable → StandsFor new start contents
+    (view : Option PolicyView) (start : Start) (contents : List (Tag × List ℕ)) → StandsFor old view start contents →
+    ladder_of (coding_of start.base) start contents old.past at ≡ uncorrectable → StandsFor new view start contents

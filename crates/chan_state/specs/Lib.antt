@@ -1,8 +1,9 @@
-pub mod CellsState
 pub mod ChannelState
 pub mod Collecting
 pub mod Condemning
 pub mod Copying
+pub mod Kept
 pub mod Noting
+pub mod Starting
 pub mod Steps
-pub mod TablesState
+pub mod Writing

@@ -1,9 +1,10 @@
 -- What does each step of a channel answer, what does it add to the history, and when may it come? A step that isn't made
 -- leaves everything as it was. The room of a history is this project's own: each open look has 256 entries set aside.
-use Rattle.std.specs.Prelude.{ℕ, ◌≡◌, ◌+◌, ◌≤◌, ◌<◌, false, IsTrue, IsFalse, List, ◌∷◌, length, ℤ, Some, Result, IsSome}
+use Rattle.std.specs.Prelude.{ℕ, ◌≡◌, ◌+◌, ◌≤◌, ◌<◌, ◌||◌, false, IsTrue, IsFalse, List, ◌∷◌, length, ℤ, Option, Some, None, Result, Ok, Err, IsSome}
+use Rattle.chan_dies.specs.DiesState.{levels_at}
+use Rattle.chan_tables.specs.TablesState.{IsStopped, is_closed_row, room_of_look, room_of_step, senses_had}
+use Rattle.ssd_geo.specs.Cells.{sensed}
 use Rattle.ssd_histories.specs.BlockLaws.{blocks_after}
-use Rattle.ssd_histories.specs.Blocks.{block_at, blocks_have_room, next_slot_of}
-use Rattle.ssd_geo.specs.Cells.{IsCellLaw}
 use Rattle.ssd_geo.specs.Coding.{coding_of}
 use Rattle.ssd_histories.specs.History.{look_by, looks_after}
 use Rattle.ssd_histories.specs.HistoryLaws.{rows_after}
@@ -17,21 +18,19 @@ use Rattle.ssd_histories.specs.Ranges.{has_slot}
 use Rattle.ssd_histories.specs.SerialCalls.{entry_of}
 use Rattle.ssd_histories.specs.Start.{Start, data_of}
 use Rattle.ssd_geo.specs.Superblock.{slots_of}
-use Rattle.ssd_geo.specs.declared.cell_law.CellLaw.{CellLaw}
 use Rattle.ssd_geo.specs.declared.kind.Kind.{Kind}
 use Rattle.ssd_geo.specs.declared.place.Place.{Place}
+use Rattle.ssd_geo.specs.declared.policy_view.PolicyView.{PolicyView}
 use Rattle.ssd_geo.specs.declared.row.Row.{Row}
 use Rattle.ssd_geo.specs.declared.stop.StepStop.{StepStop}
 use Rattle.ssd_geo.specs.declared.tag.Tag.{Tag}
-use Rattle.chan_state.specs.CellsState.{AreCellsOf, CellsState, cells_after_program, pages_after_age}
-use Rattle.chan_state.specs.ChannelState.{ChannelState, SameDrive, StandsFor}
-use Rattle.chan_state.specs.TablesState.{IsStopped, TablesState, is_closed_row, room_of_look, room_of_step, senses_had}
+use Rattle.chan_state.specs.ChannelState.{ChannelState, Count, SameDrive, StandsFor}
 use Rattle.chan_state.specs.declared.answers.AgeAnswer.{AgeAnswer}
-use Rattle.chan_state.specs.declared.answers.AgeAnswer.TheVariants.{Aged}
-use Rattle.chan_state.specs.declared.answers.LookAnswer.{LookAnswer}
-use Rattle.chan_state.specs.declared.answers.LookAnswer.TheVariants.{Empty, Lost, Found}
-use Rattle.chan_state.specs.declared.answers.WriteAnswer.{WriteAnswer}
-use Rattle.chan_state.specs.declared.answers.WriteAnswer.TheVariants.{Written, NeedRoom}
+use Rattle.chan_state.specs.declared.answers.AgeAnswer.TheVariants as age
+use Rattle.chan_state.specs.declared.answers.SenseAnswer.{SenseAnswer}
+use Rattle.chan_state.specs.declared.answers.SenseAnswer.TheVariants as sense
+use Rattle.chan_tables.specs.declared.answers.LookAnswer.{LookAnswer}
+use Rattle.chan_tables.specs.declared.answers.LookAnswer.TheVariants.{Empty, Lost, Found}
 
 -- the history has room for a look, and for a step outside a look
 abbrev pub HasLookRoom : ChannelState → Type 0
@@ -53,49 +52,6 @@ pub record AddsEntry (old new : ChannelState) (tag : Tag) (kind : Kind) : Type 0
   pub rows_are : new.rows ≡ rows_after (row_change old.session old.past tag kind) old.rows
   pub blocks_are : new.blocks ≡ blocks_after (slots_of old.shape.pages old.shape.dies) kind old.blocks
   pub looks_are : new.looks ≡ looks_after (length old.past) tag kind old.looks
-
--- the cells of a channel: the levels of its pages, and the running sum
-abbrev pub cells_in : ChannelState → CellsState
-cells_in channel = record { pages = channel.pages; sum = channel.sum }
-
--- a channel from its number, its cell law, its tables and its cells
-abbrev pub channel_of : ℕ → CellLaw → TablesState → CellsState → ChannelState
-channel_of channel law tables cells = record {
-  shape = tables.shape;
-  session = tables.session;
-  channel = channel;
-  law = law;
-  limit = tables.limit;
-  rows = tables.rows;
-  blocks = tables.blocks;
-  looks = tables.looks;
-  pages = cells.pages;
-  sum = cells.sum;
-  past = tables.past;
-}
-
--- the tables of a channel
-abbrev pub tables_in : ChannelState → TablesState
-tables_in channel = record {
-  shape = channel.shape;
-  session = channel.session;
-  limit = channel.limit;
-  rows = channel.rows;
-  blocks = channel.blocks;
-  looks = channel.looks;
-  past = channel.past;
-}
-
--- the cells are those of the channel's sizes, and can be programmed
-pub record HasCells (channel : ℕ) (law : CellLaw) (tables : TablesState) (cells : CellsState) : Type 0 where
-  pub in_drive : channel < tables.shape.channels
-  pub is_law : IsCellLaw law
-  pub sizes : AreCellsOf tables.shape cells
-
--- the cells and the running sum are as they were
-pub record CellsStay (old new : ChannelState) : Type 0 where
-  pub pages_stay : new.pages ≡ old.pages
-  pub sum_stays : new.sum ≡ old.sum
 
 -- the look of this call that began at a position is open
 abbrev pub IsOpen : ChannelState → Tag → ℕ → Type 0
@@ -123,48 +79,55 @@ pub record MaySense (channel : ChannelState) (tag : Tag) (at : ℕ) : Type 0 whe
   pub few : senses_made channel at < 168
   pub no_fault : IsFalse (has_fault_sense channel.past at)
 
--- where the ladder of the look asked just for this sense, it gives what the definitions say, and the channel goes on standing
-abbrev pub SensesFor : ChannelState → ChannelState → ℕ → Place → ℤ → List ℕ → Type 0
-SensesFor old new at place level out =
-    (start : Start) (contents : List (Tag × List ℕ)) → StandsFor old start contents →
-    ladder_of (coding_of start.base) start contents old.past at ≡ asks place level →
-    (out ≡ sense_of (coding_of start.base) start contents old.past place level) × StandsFor new start contents
+-- a sense that the die made adds its entry and gives the bits of the page; where the die of the place failed, an entry
+-- says so, and the bits given are as they were
+abbrev pub Senses : ChannelState → ChannelState → Tag → ℕ → Place → ℤ → SenseAnswer → Type 0
+Senses old new tag at place level sense.Sensed = AddsEntry old new tag (Kind.Sense at place level)
+Senses old new tag at place level (sense.DieFault die) = (die ≡ place.die) × AddsEntry old new tag (Kind.FaultSense at place level)
 
--- where the ladder of the look had its answer, the channel goes on standing
+abbrev pub GivesBits : ChannelState → Place → ℤ → List ℕ → List ℕ → SenseAnswer → Type 0
+GivesBits old place level was out sense.Sensed = out ≡ sensed level (levels_at old.dies place)
+GivesBits old place level was out (sense.DieFault die) = out ≡ was
+
+-- the die that a sense names as failed, if it names one
+abbrev pub fault_of_sense : SenseAnswer → Option ℕ
+fault_of_sense sense.Sensed = None
+fault_of_sense (sense.DieFault die) = Some die
+
+-- the bits of a sense are what the definitions say
+abbrev pub AreSensed : Start → List (Tag × List ℕ) → ChannelState → Place → ℤ → List ℕ → SenseAnswer → Type 0
+AreSensed start contents old place level out sense.Sensed = out ≡ sense_of (coding_of start.base) start contents old.past place level
+AreSensed start contents old place level out (sense.DieFault die) = Unit {0}
+
+-- where the ladder of the look asked just for this sense, it gives what the definitions say, and the channel goes on standing
+abbrev pub SensesFor : ChannelState → ChannelState → ℕ → Place → ℤ → List ℕ → SenseAnswer → Type 0
+SensesFor old new at place level out answer =
+    (view : Option PolicyView) (start : Start) (contents : List (Tag × List ℕ)) → StandsFor old view start contents →
+    ladder_of (coding_of start.base) start contents old.past at ≡ asks place level →
+    AreSensed start contents old place level out answer × StandsFor new view start contents
+
+-- where the ladder of the look had its answer, or a sense of it failed, the channel goes on standing
 abbrev pub LeavesFor : ChannelState → ChannelState → ℕ → Type 0
 LeavesFor old new at =
-    (start : Start) (contents : List (Tag × List ℕ)) → StandsFor old start contents →
-    IsTrue (has_answer (ladder_of (coding_of start.base) start contents old.past at)) → StandsFor new start contents
+    (view : Option PolicyView) (start : Start) (contents : List (Tag × List ℕ)) → StandsFor old view start contents →
+    IsTrue (has_answer (ladder_of (coding_of start.base) start contents old.past at) || has_fault_sense old.past at) →
+    StandsFor new view start contents
 
 -- the word is that of a call's write of a row
 abbrev pub IsWordOf : Start → List (Tag × List ℕ) → Tag → ℕ → List ℕ → Type 0
 IsWordOf start contents tag row word =
     word ≡ (coding_of start.base).encoded (serial_of start.base.session tag) row (data_of contents tag)
 
--- where the word is the call's, the channel goes on standing
-abbrev pub WritesFor : ChannelState → ChannelState → Tag → ℕ → List ℕ → Type 0
-WritesFor old new tag row word =
-    (start : Start) (contents : List (Tag × List ℕ)) → StandsFor old start contents →
-    IsWordOf start contents tag row word → StandsFor new start contents
-
--- a write goes to the next slot where the host has room, and else asks for room and changes nothing
-abbrev pub Writes : ChannelState → ChannelState → Tag → ℕ → WriteAnswer → Type 0
-Writes old new tag row (Written slot) =
-    IsTrue (blocks_have_room old.blocks) × (next_slot_of old.blocks ≡ Some slot) × AddsEntry old new tag (Kind.Write row slot)
-Writes old new tag row NeedRoom = IsFalse (blocks_have_room old.blocks) × (new ≡ old)
-
--- a write programs its word, with the noise of its page and of the erases of its superblock
-abbrev pub Programs : ChannelState → ChannelState → List ℕ → WriteAnswer → Type 0
-Programs old new word (Written slot) =
-    cells_in new
-    ≡ cells_after_program old.shape old.law old.channel slot (block_at old.blocks slot.sb).erases word (cells_in old)
-Programs old new word NeedRoom = CellsStay old new
-
--- an ageing of a block adds its entry
+-- an ageing of a block adds its entry, or one that says that its die failed
 abbrev pub Ages : ChannelState → ChannelState → Tag → ℕ → ℕ → ℕ → AgeAnswer → Type 0
-Ages old new tag die sb amount Aged = AddsEntry old new tag (Kind.Age die sb amount)
+Ages old new tag die sb amount age.Aged = AddsEntry old new tag (Kind.Age die sb amount)
+Ages old new tag die sb amount (age.DieFault named) = (named ≡ die) × AddsEntry old new tag (Kind.FaultAge die sb amount)
 
--- it ages the pages of its block, and leaves the others and the running sum as they were
-abbrev pub AgesCells : ChannelState → ChannelState → ℕ → ℕ → ℕ → AgeAnswer → Type 0
-AgesCells old new die sb amount Aged =
-    (new.pages ≡ pages_after_age old.shape old.law die sb amount old.pages) × (new.sum ≡ old.sum)
+abbrev pub fault_of_age : AgeAnswer → Option ℕ
+fault_of_age age.Aged = None
+fault_of_age (age.DieFault die) = Some die
+
+-- a step that adds no entry counts no fault
+abbrev pub CountAt : {A : Type 0} → (A → Option ℕ) → ChannelState → ChannelState → Result A StepStop → Type 0
+CountAt named old new (Ok answer) = Count (named answer) old new
+CountAt named old new (Err stop) = new ≡ old

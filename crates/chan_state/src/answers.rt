@@ -1,21 +1,12 @@
-use ssd_geo::{Look, Row, Slot};
-
-/// What a look of a row found.
-#[derive(Clone, Copy, Debug, PartialEq, Eq)]
-pub enum LookAnswer {
-    /// The row names no page.
-    Empty,
-    /// The row's page couldn't be recovered.
-    Lost,
-    /// A page. The look is open until it is left, and pins the page's superblock.
-    Found(Look),
-}
+use ssd_geo::{Row, Slot};
 
 /// How a sense ended.
 #[derive(Clone, Copy, Debug, PartialEq, Eq)]
 pub enum SenseAnswer {
     /// The page was sensed.
     Sensed,
+    /// The call of this die failed.
+    DieFault { die: u8 },
 }
 
 /// How an ageing ended.
@@ -23,6 +14,8 @@ pub enum SenseAnswer {
 pub enum AgeAnswer {
     /// The block was aged.
     Aged,
+    /// The call of this die failed.
+    DieFault { die: u8 },
 }
 
 /// How a write ended.
@@ -30,7 +23,15 @@ pub enum AgeAnswer {
 pub enum WriteAnswer {
     /// The word was programmed into this slot, and the row names it.
     Written { slot: Slot },
-    /// The host has no room: one superblock is kept free for copies.
+    /// A program answered FAIL, and this superblock is bad.
+    Failed { sb: u16 },
+    /// The call of this die failed.
+    DieFault { die: u8 },
+    /// No superblock is free, and no collection can make one free.
+    ReadOnly,
+    /// There is no room, and nothing to collect.
+    Full,
+    /// The host has no room, but a collection may make some.
     NeedRoom,
 }
 
@@ -45,41 +46,23 @@ pub enum MoveAnswer {
     NoRoom,
     /// The word was programmed into this slot, and the row names it.
     Moved { slot: Slot },
+    /// A program answered FAIL, and this superblock is bad.
+    Failed { sb: u16 },
+    /// The call of this die failed.
+    DieFault { die: u8 },
 }
 
-/// How the condemnation of a look's row ended.
+/// How a pick of a victim ended.
 #[derive(Clone, Copy, Debug, PartialEq, Eq)]
-pub enum CondemnAnswer {
-    /// The row isn't as the look found it: it holds this.
-    Changed { row: Row },
-    /// The row is lost.
-    Condemned,
-}
-
-/// How full a channel is at a moment.
-#[derive(Clone, Copy, Debug, PartialEq, Eq)]
-pub struct Note {
-    /// The free superblocks.
-    pub free: u16,
-    /// The victim.
-    pub victim: Option<u16>,
-    /// The live pages of the victim: 0 without one.
-    pub live: u32,
-    /// The open looks that stand in the victim: 0 without one.
-    pub pins: u32,
-    /// The sealed superblocks with garbage.
-    pub garbage: u16,
-}
-
-/// What a look of the victim's first live page found.
-#[derive(Clone, Copy, Debug, PartialEq, Eq)]
-pub enum LiveAnswer {
-    /// The superblock isn't the victim.
-    NotVictim,
-    /// The victim has no live page.
-    NoneLive,
-    /// The live page of least index. The look is open until it is left.
-    Found(Look),
+pub enum PickAnswer {
+    /// There is a victim.
+    Busy { sb: u16 },
+    /// No superblock is free.
+    ReadOnly,
+    /// No sealed superblock has garbage.
+    NoGarbage,
+    /// This superblock is the victim.
+    Picked { sb: u16 },
 }
 
 /// How an erase of the victim ended.
@@ -93,4 +76,8 @@ pub enum EraseAnswer {
     Pinned { count: u32 },
     /// The superblock is free, and was erased once more.
     Erased,
+    /// The erase answered FAIL on this die, and the superblock is bad.
+    FailedErase { die: u8 },
+    /// The call of this die failed, and the superblock is bad.
+    DieFault { die: u8 },
 }

@@ -1,15 +1,11 @@
-//! A channel: its page map, its superblocks, its open looks, the cells of its dies, and the history of its steps. Each step
-//! adds one lawful entry or none. It knows neither the host's pages nor any decoder, and encodes no word.
+//! A channel: its tables, its dies and its policy. Each step decides by the tables, has the dies do it, and records what they
+//! did: it adds one lawful entry or none. It knows neither the host's pages nor any decoder, and encodes no word.
 #![tactic(auto)]
 
 mod answers;
-mod cells;
 mod channel;
-mod history;
-mod tables;
+mod kept;
 
-pub use answers::{
-    AgeAnswer, CondemnAnswer, EraseAnswer, LiveAnswer, LookAnswer, MoveAnswer, Note, SenseAnswer,
-    WriteAnswer,
-};
+pub use answers::{AgeAnswer, EraseAnswer, MoveAnswer, PickAnswer, SenseAnswer, WriteAnswer};
+pub use chan_tables::{CondemnAnswer, LiveAnswer, LookAnswer, Note};
 pub use channel::Channel;

@@ -3,57 +3,45 @@ ghost use Rattle.std.specs.Prelude.{◌≡◌, IfSome, length};
 ghost use Rattle.ssd_geo.specs.Coding.{word_bytes_in};
 ghost use Rattle.ssd_histories.specs.History.{look_by};
 ghost use Rattle.ssd_histories.specs.OpenLooks.{look_at};
-ghost use Rattle.ssd_geo.specs.Superblock.{slots_of};
-ghost use Rattle.chan_state.specs.Condemning.{CondemnsFor, IsCondemnAnswer, MayCondemn, kind_of_condemn, rows_after_condemn};
-ghost use Rattle.chan_state.specs.Copying.{Copies, IsMoveAnswer, MayMove, MovesFor, kind_of_move, rows_after_move};
-ghost use Rattle.chan_state.specs.Steps.{AddsEntry, CellsStay};
+ghost use Rattle.chan_tables.specs.Condemning.{IsCondemnAnswer, kind_of_condemn};
+ghost use Rattle.chan_state.specs.ChannelState.{Count, DiesStay};
+ghost use Rattle.chan_state.specs.Condemning.{CondemnsFor, MayCondemn};
+ghost use Rattle.chan_state.specs.Copying.{IsMoveAnswer, MayMove, Moves, MovesFor, fault_of_move};
+ghost use Rattle.chan_state.specs.Steps.{AddsEntry};
 
 use super::Channel;
 use crate::{CondemnAnswer, MoveAnswer};
+use onfi_cmd::Die;
 use ssd_geo::Tag;
+use victim::Policy;
 
-impl Channel {
+impl<D: Die, P: Policy> Channel<D, P> {
     /// Copies a look's page to the next slot, where its row is as the look found it. The word is the one recovered.
     pub fn move_if(&mut self, tag: Tag, at: u32, word: &[u8]) -> MoveAnswer
-        requires may { MayMove self.old tag at }
-        requires word { length word.now ≡ word_bytes_in self.old.shape }
-        ensures answer { IfSome (look_by tag (look_at self.old.looks at)) (λ look.
-            let slots = slots_of self.old.shape.pages self.old.shape.dies in
-            IsMoveAnswer slots self.old.blocks self.old.rows look result) }
-        ensures rows { IfSome (look_by tag (look_at self.old.looks at)) (λ look.
-            self.new.rows ≡ rows_after_move self.old.rows look result) }
-        ensures entry { AddsEntry self.old self.new tag (kind_of_move at result) }
-        ensures looks { self.new.looks ≡ self.old.looks }
-        ensures cells { Copies self.old self.new word.now result }
-        ensures stands { MovesFor self.old self.new at word.now }
+        requires may { MayMove self.old.kept tag at }
+        requires word { length word.now ≡ word_bytes_in self.old.kept.shape }
+        ensures answer { IfSome (look_by tag (look_at self.old.kept.looks at)) (λ look.
+            IsMoveAnswer self.old.kept look result) }
+        ensures entry { Moves self.old.kept self.new.kept tag at result }
+        ensures looks { self.new.kept.looks ≡ self.old.kept.looks }
+        ensures faults { Count (fault_of_move result) self.old.kept self.new.kept }
+        ensures view { P.told self.new.policy ≡ P.told self.old.policy }
+        ensures stands { MovesFor self.old.kept self.new.kept at word.now }
     {
-        let answer = self.tables.moved(tag, at);
-        if let MoveAnswer::Moved { slot } = answer {
-            let erases = self.tables.erases(slot.sb);
-            self.cells.program(
-                self.tables.shape(),
-                &self.law,
-                self.channel,
-                slot,
-                erases,
-                word,
-            );
-        }
-        answer
+        self.kept.move_if(tag, at, word)
     }
 
     /// Makes the row of a look lost, where it is as the look found it. The page is one that can't be recovered.
     pub fn condemn_if(&mut self, tag: Tag, at: u32) -> CondemnAnswer
-        requires { MayCondemn self.old tag at }
-        ensures answer { IfSome (look_by tag (look_at self.old.looks at)) (λ look.
-            IsCondemnAnswer self.old.rows look result) }
-        ensures rows { IfSome (look_by tag (look_at self.old.looks at)) (λ look.
-            self.new.rows ≡ rows_after_condemn self.old.rows look result) }
-        ensures entry { AddsEntry self.old self.new tag (kind_of_condemn at result) }
-        ensures looks { self.new.looks ≡ self.old.looks }
-        ensures cells { CellsStay self.old self.new }
-        ensures stands { CondemnsFor self.old self.new at }
+        requires { MayCondemn self.old.kept tag at }
+        ensures answer { IfSome (look_by tag (look_at self.old.kept.looks at)) (λ look.
+            IsCondemnAnswer self.old.kept.rows look result) }
+        ensures entry { AddsEntry self.old.kept self.new.kept tag (kind_of_condemn at result) }
+        ensures looks { self.new.kept.looks ≡ self.old.kept.looks }
+        ensures dies { DiesStay self.old.kept self.new.kept }
+        ensures view { P.told self.new.policy ≡ P.told self.old.policy }
+        ensures stands { CondemnsFor self.old.kept self.new.kept at }
     {
-        self.tables.condemned(tag, at)
+        self.kept.condemn_if(tag, at)
     }
 }
