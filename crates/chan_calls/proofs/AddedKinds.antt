@@ -20,6 +20,8 @@ comes_by a b tag now seen_is number_is comes =
       looks_stay = comes.looks_stay;
       senses_stay = comes.senses_stay;
       faults_stay = comes.faults_stay;
+      recovered_stay = comes.recovered_stay;
+      uncorrectable_stay = comes.uncorrectable_stay;
     })
 
 pub adds_by : (a b : CallerView) (tag : Tag) (kinds : List Kind) (seen new : List Entry) →

@@ -4,7 +4,7 @@ use Rattle.std.proofs.Common.{◌≡◌, ℕ, suc, ◌+◌, ◌-◌, ◌*◌, �
 use Rattle.std.specs.Prelude.{IfSome, IsSome, IsTrue, ℤ}
 use Rattle.std.proofs.lemmas.List.{length-append, map-append}
 use Rattle.std.proofs.Math.Nat.{mul-le-mul_left}
-use Rattle.chan_state.specs.TablesState.{senses_had}
+use Rattle.chan_tables.specs.TablesState.{ends_recovered, ends_uncorrectable, senses_had}
 use Rattle.ldpc_decode.specs.View.{DecoderView}
 use Rattle.retry_ladder.specs.Decoder.{IsCodeOf}
 use Rattle.retry_ladder.specs.View.{IsAskOf, IsLookIn, LadderView, StandsFor, coding_with, state_in, with_sense}
@@ -28,13 +28,15 @@ use Rattle.ssd_geo.specs.declared.place.Place.{Place}
 use Rattle.ssd_geo.specs.declared.shape.Shape.{Shape}
 use Rattle.ssd_geo.specs.declared.tag.Tag.{Tag}
 use Rattle.ssd_geo.proofs.LadderBound.{ladders_end}
-use Rattle.chan_calls.specs.Caller.{AddsKinds, CallerView, IfBound, IsOf, SameCaller, own_look}
+use Rattle.chan_calls.specs.Caller.{AddsKinds, CallerView, Comes, IfBound, IsOf, SameCaller, own_look}
 use Rattle.chan_calls.specs.Calls.{sense_kinds}
-use Rattle.chan_calls.specs.Climbing.{Climbs, GoesBy, HasSensed, IsLadderOf, MayClimb}
-use Rattle.chan_calls.specs.Stepping.{MaySense, Senses, Standing}
+use Rattle.chan_calls.specs.Climbing.{Climbs, FailsToClimb, GoesBy, HasSensed, IsLadderOf, MayClimb}
+use Rattle.chan_calls.specs.Sensing.{MaySense, Senses}
+use Rattle.chan_calls.specs.Stepping.{Standing}
+use Rattle.chan_state.specs.declared.answers.SenseAnswer.TheVariants.{DieFault, Sensed}
 use Rattle.chan_calls.proofs.AddedKinds.{adds_one, comes_by}
 use Rattle.chan_calls.proofs.LadderPlaces.{asked_place, look_has_place}
-use Rattle.chan_calls.proofs.SensedLooks.{had_after_sense, look_after_sense, senses_after_sense}
+use Rattle.chan_calls.proofs.SensedLooks.{had_after_sense, look_after, own_began, senses_after_sense}
 
 -- a ladder's coding is that of the start by which it goes
 pub coding_is : (ladder : LadderView) (matrix : BaseMatrix) (limit : ℕ) (start : Start) →
@@ -206,10 +208,46 @@ module _ (ladder : LadderView) (matrix : BaseMatrix) (limit : ℕ) (old new : Ca
       by_bound None h = h
       by_bound (Some bound) h = subst fact (sym (climb_state bound.0 bound.1 h.0 h.1 h.2)) holds
 
-  -- one more sense
-  module _ (next : CallerView) (after : Standing) (place : Place) (level : ℤ) (bits : List ℕ)
+  -- it still is in the past that a step finds
+  now_is_own : (now : List Entry) → Comes new tag now → IsSome (own_look tag now look.at)
+  now_is_own now comes =
+      is_open (own_look tag now look.at) look (comes.looks_stay look.at ∙ climbs.is_own)
+
+  -- a sense that failed
+  module _ (next : CallerView) (after : Standing) (place : Place) (level : ℤ) (before bits : List ℕ)
+      (die : ℕ) (first : LadderView) (is : IsLadderOf first ladder)
       (asking : state_in ladder ≡ asks place level) (same : SameCaller old new)
-      (made : Senses new next stands after tag look.at place level bits) where
+      (made : Senses new next stands after tag look.at place level before bits (DieFault die)) where
+    pub climb_fails : FailsToClimb matrix limit first old next stood after tag look die
+    climb_fails = record {
+      asked = asked;
+      after = new.seen;
+      are_senses = climbs.are_senses;
+      place = place;
+      level = level;
+      now = made.now;
+      comes = comes_by new (record old { seen = new.seen }) tag made.now refl
+          (sym same.number_stays) made.comes;
+      die_is = made.fails.0;
+      seen_is = made.seen_is;
+      is_own =
+          is_open (own_look tag next.seen look.at) look
+          (ap (λ (past : List Entry). own_look tag past look.at) made.seen_is
+          ∙ made.comes.looks_stay look.at ∙ climbs.is_own);
+      goes_on = λ start contents by is_of stood_for.
+          let goes_by : GoesBy ladder matrix limit start =
+          goes_by_too first ladder matrix limit start is by in
+          let sensed : HasSensed start contents new stands look senses =
+          climbs.goes_on start contents goes_by is_of stood_for in
+          let step = made.goes_on start contents sensed.is_of sensed.stands_still
+          (climb_state start contents goes_by is_of stood_for ∙ asking) in
+          (step.2, step.3);
+    }
+
+  -- one more sense
+  module _ (next : CallerView) (after : Standing) (place : Place) (level : ℤ) (before bits : List ℕ)
+      (asking : state_in ladder ≡ asks place level) (same : SameCaller old new)
+      (made : Senses new next stands after tag look.at place level before bits Sensed) where
     private_own : IsSome (own_look tag new.seen look.at)
     private_own = climb_is_own
 
@@ -253,8 +291,9 @@ module _ (ladder : LadderView) (matrix : BaseMatrix) (limit : ℕ) (old new : Ca
           stands_still = step.3;
           look_is =
               ap (λ (past : List Entry). look_of past look.at) made.seen_is
-              ∙ look_after_sense made.now tag look.at place level look
-              (step.0.look_stays ∙ sensed.look_is);
+              ∙ look_after made.now tag (Kind.Sense look.at place level) look.at
+              (own_began made.now tag look.at (now_is_own made.now made.comes))
+              ∙ step.0.look_stays ∙ sensed.look_is;
           senses_are =
               ap (λ (past : List Entry). senses_of coding start contents past look.at) made.seen_is
               ∙ senses_after_sense coding start contents made.now tag look.at place level
@@ -286,6 +325,10 @@ module _ (ladder : LadderView) (matrix : BaseMatrix) (limit : ℕ) (old new : Ca
       as_many = had_more ∙ ap suc climbs.as_many ∙ one_longer senses;
       no_fault = ap (λ (past : List Entry). has_fault_sense past look.at) made.seen_is
           ∙ made.comes.faults_stay look.at private_own ∙ climbs.no_fault;
+      not_recovered = ap (λ (past : List Entry). ends_recovered past look.at) made.seen_is
+          ∙ made.comes.recovered_stay look.at private_own ∙ climbs.not_recovered;
+      not_uncorrectable = ap (λ (past : List Entry). ends_uncorrectable past look.at) made.seen_is
+          ∙ made.comes.uncorrectable_stay look.at private_own ∙ climbs.not_uncorrectable;
       are_senses = are_senses;
       goes_on = goes_on;
     }

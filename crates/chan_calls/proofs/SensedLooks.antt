@@ -1,14 +1,16 @@
 -- One more sense of an open look: the look stays as it is, and has one sense more.
 use Rattle.std.proofs.Common.{◌≡◌, ℕ, suc, ◌+◌, ◌<◌, ◌==◌, cond, Bool, true, false, List, [], ◌∷◌, ◌++◌, length, Option, Some, None, refl, sym, ap, ◌∙◌, arith}
-use Rattle.std.specs.Prelude.{ℤ}
+use Rattle.std.specs.Prelude.{IsSome, ℤ}
 use Rattle.std.proofs.lemmas.Bool.Decides.{nat_tests}
 use Rattle.std.proofs.lemmas.List.Sums.{sum_by-cons}
-use Rattle.chan_state.specs.TablesState.{senses_had}
+use Rattle.chan_tables.specs.TablesState.{senses_had}
 use Rattle.ssd_histories.specs.CallSteps.{is_sense_of}
 use Rattle.ssd_geo.specs.Cells.{sensed}
-use Rattle.ssd_geo.specs.Coding.{Coding}
-use Rattle.ssd_histories.specs.History.{look_made, look_of}
-use Rattle.ssd_histories.specs.PastPages.{levels_in, page_of, sense_of, senses_of}
+use Rattle.ssd_geo.specs.Coding.{Coding, coding_of}
+use Rattle.ssd_geo.specs.Ladder.{ladder_over}
+use Rattle.ssd_histories.specs.History.{look_by, look_made, look_of, open_looks}
+use Rattle.ssd_histories.specs.OpenLooks.{look_at}
+use Rattle.ssd_histories.specs.PastPages.{ladder_of, levels_in, page_of, sense_for, sense_of, senses_of}
 use Rattle.ssd_histories.specs.SerialCalls.{entry_of}
 use Rattle.ssd_histories.specs.Start.{Start}
 use Rattle.ssd_geo.specs.declared.entry.Entry.{Entry}
@@ -16,6 +18,8 @@ use Rattle.ssd_geo.specs.declared.kind.Kind.{Kind}
 use Rattle.ssd_geo.specs.declared.look.Look.{Look}
 use Rattle.ssd_geo.specs.declared.place.Place.{Place}
 use Rattle.ssd_geo.specs.declared.tag.Tag.{Tag}
+use Rattle.chan_calls.specs.Caller.{LookStays, own_look}
+use Rattle.chan_tables.proofs.EarlierLooks.{look_found}
 
 same : (n : ℕ) → (n == n) ≡ true
 same n = grind (arith, nat_tests)
@@ -38,13 +42,50 @@ look_began (entry ∷ past) at look is = by_test (length past == at) refl (look_
         let below : at < length past = before found in
         omega arith
 
--- an entry that is no look leaves it
-pub look_after_sense : (past : List Entry) (tag : Tag) (at : ℕ) (place : Place) (level : ℤ)
-    (look : Look) → look_of past at ≡ Some look →
-    look_of (entry_of tag (Kind.Sense at place level) ∷ past) at ≡ Some look
-look_after_sense past tag at place level look is =
-    ap (λ (b : Bool). elim b [ true ↦ None | false ↦ look_of past at ])
-    (other (length past) at (look_began past at look is)) ∙ is
+-- an open look of a call began before the end of its past too
+pub own_began : (past : List Entry) (tag : Tag) (at : ℕ) → IsSome (own_look tag past at) →
+    at < length past
+own_began past tag at own = by_look (look_at (open_looks past) at) refl own
+  where
+    by_look : (found : Option (Tag × Look)) → look_at (open_looks past) at ≡ found →
+        IsSome (look_by tag found) → at < length past
+    by_look None e is = absurd (cc)
+    by_look (Some pin) e is = look_began past at pin.1 (look_found past at pin e).is_look
+
+-- what an entry made later is another look
+pub look_after : (past : List Entry) (tag : Tag) (kind : Kind) (at : ℕ) → at < length past →
+    look_of (entry_of tag kind ∷ past) at ≡ look_of past at
+look_after past tag kind at began =
+    ap (λ (b : Bool). elim b [ true ↦ look_made at kind | false ↦ look_of past at ])
+    (other (length past) at began)
+
+-- so a ladder stays where it is after an entry that is no sense of its look
+pub ladder_after : (coding : Coding) (start : Start) (contents : List (Tag × List ℕ))
+    (past : List Entry) (tag : Tag) (kind : Kind) (at : ℕ) → at < length past →
+    sense_for at kind ≡ None →
+    ladder_of coding start contents (entry_of tag kind ∷ past) at ≡ ladder_of coding start contents
+    past at
+ladder_after coding start contents past tag kind at began none =
+    ap (λ (look : Option Look). ladder_over coding start.base.shape.dies look
+    (senses_of coding start contents (entry_of tag kind ∷ past) at))
+    (look_after past tag kind at began)
+    ∙ ap (λ (o : Option (Place × ℤ)). ladder_over coding start.base.shape.dies (look_of past at)
+    (elim o as (λ (o : Option (Place × ℤ)). List (List ℕ)) [
+      | Some asked ↦ senses_of coding start contents past at ++ sensed asked.1
+          (levels_in start.base (page_of coding start contents past asked.0)) ∷ []
+      | None ↦ senses_of coding start contents past at
+    ])) none
+
+-- and where the look and what it sensed are the same, so is its ladder
+pub ladder_stays : (start : Start) (contents : List (Tag × List ℕ)) (seen now : List Entry)
+    (at : ℕ) → LookStays start contents seen now at →
+    ladder_of (coding_of start.base) start contents now at
+    ≡ ladder_of (coding_of start.base) start contents seen at
+ladder_stays start contents seen now at stays =
+    ap (λ (look : Option Look). ladder_over (coding_of start.base) start.base.shape.dies look
+    (senses_of (coding_of start.base) start contents now at)) stays.look_stays
+    ∙ ap (ladder_over (coding_of start.base) start.base.shape.dies (look_of seen at))
+    stays.sensed_stays
 
 -- one more sense is counted
 pub had_after_sense : (past : List Entry) (tag : Tag) (at : ℕ) (place : Place) (level : ℤ) →

@@ -1,9 +1,8 @@
 -- One write of data to a row: the word that a worker makes is that of the call, so the channel goes
 -- on standing.
 use Rattle.std.proofs.Common.{◌≡◌, ℕ, List, Option, Some, None, sym, ap, subst, ◌∙◌}
-use Rattle.std.specs.Prelude.{IfSome, Result}
+use Rattle.std.specs.Prelude.{IfSome}
 use Rattle.chan_state.specs.Steps.{IsWordOf}
-use Rattle.chan_state.specs.declared.answers.WriteAnswer.{WriteAnswer}
 use Rattle.ssd_geo.specs.BaseMatrix.{BaseMatrix}
 use Rattle.ssd_geo.specs.Coding.{matrix_of, payload_of}
 use Rattle.ssd_geo.specs.PageWord.{word_of}
@@ -11,7 +10,6 @@ use Rattle.ssd_geo.specs.Shape.{sizes_of}
 use Rattle.ssd_histories.specs.PastRows.{serial_of}
 use Rattle.ssd_histories.specs.Start.{Start, data_of}
 use Rattle.ssd_geo.specs.declared.shape.Shape.{Shape}
-use Rattle.ssd_geo.specs.declared.stop.StepStop.{StepStop}
 use Rattle.ssd_geo.specs.declared.tag.Tag.{Tag}
 use Rattle.chan_calls.specs.Caller.{CallerView, IsBoundWord, TakesData}
 use Rattle.chan_calls.specs.Calls.{WritesData}
@@ -50,12 +48,11 @@ word_made matrix code shape serial row bytes payload encoded payload_is encoded_
     ∙ ap (word_of (sizes_of shape) code) payload_is
 
 pub writes_data : (worker : WorkerState) (old new : CallerView) (stood stands : Standing)
-    (tag : Tag) (row : ℕ) (bytes : List ℕ) (serial : ℕ) (word : List ℕ)
-    (result : Result WriteAnswer StepStop) →
+    (tag : Tag) (row : ℕ) (bytes : List ℕ) (serial : ℕ) (word : List ℕ) →
     serial ≡ serial_of worker.session tag → word ≡ word_made_by worker serial row bytes →
-    WritesOn old new stood stands tag row word result →
-    WritesData worker old new stood stands tag bytes result
-writes_data worker old new stood stands tag row bytes serial word result serial_is word_is writes =
+    WritesOn old new stood stands tag row word →
+    WritesData worker old new stood stands tag bytes
+writes_data worker old new stood stands tag row bytes serial word serial_is word_is writes =
     λ start contents works is_of stood_for data_is.
     writes start contents is_of stood_for (is_word_of worker start contents tag row bytes serial
     word works data_is serial_is word_is)

@@ -1,12 +1,12 @@
 -- What does a caller of a channel's steps know of the channel? It has seen a part of the history:
 -- all up to its own latest step. Before a step of its own, other callers may have added entries,
 -- unless it is alone; what it had seen begins what stands then.
-use Rattle.std.specs.Prelude.{ℕ, ◌≡◌, ◌≢◌, ◌+◌, ◌≤◌, List, [], ◌∷◌, ◌++◌, length, All, Option, None, IfSome, IsSome}
+use Rattle.std.specs.Prelude.{ℕ, ◌≡◌, ◌≢◌, ◌+◌, ◌≤◌, ◌||◌, IsTrue, List, [], ◌∷◌, ◌++◌, length, All, Option, None, IfSome, IsSome}
 use Rattle.chan_state.specs.Steps.{IsWordOf}
-use Rattle.chan_state.specs.TablesState.{room_of_look, room_of_step, senses_had}
+use Rattle.chan_tables.specs.TablesState.{ends_recovered, ends_uncorrectable, room_of_look, room_of_step, senses_had}
 use Rattle.ssd_geo.specs.Coding.{coding_of}
 use Rattle.ssd_histories.specs.History.{look_by, look_of, open_looks}
-use Rattle.ssd_geo.specs.Ladder.{LadderState}
+use Rattle.ssd_geo.specs.Ladder.{LadderState, has_answer}
 use Rattle.ssd_histories.specs.Lawful.{has_fault_sense}
 use Rattle.ssd_histories.specs.OpenLooks.{look_at}
 use Rattle.ssd_histories.specs.PastPages.{ladder_of, senses_of}
@@ -54,7 +54,8 @@ abbrev pub own_look : Tag → List Entry → ℕ → Option Look
 own_look tag past at = look_by tag (look_at (open_looks past) at)
 
 -- the past that a caller's step of a call finds: other callers may have added entries to what the
--- caller has seen, none of which is of the call's actor, or ends or senses for its looks
+-- caller has seen, none of which is of the call's actor, or senses for its looks, or ends them or
+-- their copies
 pub record Comes (caller : CallerView) (tag : Tag) (now : List Entry) : Type 0 where
   pub others : List Entry
   pub now_is : now ≡ others ++ caller.seen
@@ -65,6 +66,10 @@ pub record Comes (caller : CallerView) (tag : Tag) (now : List Entry) : Type 0 w
       senses_had now at ≡ senses_had caller.seen at
   pub faults_stay : (at : ℕ) → IsSome (own_look tag caller.seen at) →
       has_fault_sense now at ≡ has_fault_sense caller.seen at
+  pub recovered_stay : (at : ℕ) → IsSome (own_look tag caller.seen at) →
+      ends_recovered now at ≡ ends_recovered caller.seen at
+  pub uncorrectable_stay : (at : ℕ) → IsSome (own_look tag caller.seen at) →
+      ends_uncorrectable now at ≡ ends_uncorrectable caller.seen at
 
 -- a caller made entries of these kinds for a call, one after the other, each upon the past that it
 -- found
@@ -108,6 +113,12 @@ IfBound caller at fact =
 -- the look of a call that began at a position is open
 abbrev pub IsOwn : CallerView → Tag → ℕ → Type 0
 IsOwn caller tag at = IsSome (own_look tag caller.seen at)
+
+-- the look that began at a position may be left: a sense of it failed, or its ladder has an answer,
+-- where the channel is bound to a start and contents
+abbrev pub MayLeave : CallerView → ℕ → Type 0
+MayLeave caller at =
+    IfBound caller at (λ state. IsTrue (has_answer state || has_fault_sense caller.seen at))
 
 -- the word is that of a call's write of a row, where the channel is bound to a start and contents
 abbrev pub IsBoundWord : CallerView → Tag → ℕ → List ℕ → Type 0

@@ -2,7 +2,10 @@ pub mod Alone
 pub mod Calls
 pub mod Caller
 pub mod Climbing
-pub mod Held
+pub mod Collecting
+pub mod Copied
+pub mod Moving
 pub mod Ready
+pub mod Sensing
 pub mod Stepping
 pub mod Workers

@@ -7,4 +7,6 @@ pub enum ReadReply {
     Empty,
     /// The page couldn't be recovered.
     Uncorrectable,
+    /// A sense failed: the call of this die did.
+    DieFault { die: u8 },
 }

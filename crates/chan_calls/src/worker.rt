@@ -1,29 +1,22 @@
-// Whole calls of one channel: a read and a write.
-ghost use Rattle.std.specs.Prelude.{◌≡◌, ◌≤◌, ◌<◌, ◌^◌, [], IfOk, IsTrue, length, ⊤};
+// What whole calls need, and the calls.
+ghost use Rattle.std.specs.Prelude.{◌≡◌, ◌≤◌, ◌<◌, ◌^◌, [], IfOk, IsTrue, length};
 ghost use Rattle.std.specs.List.{list_all};
-ghost use Rattle.chan_calls.specs.Caller.{HasLookRoom, HasStepRoom, SameCaller, Serves, TakesData};
-ghost use Rattle.chan_calls.specs.Calls.{GoesOnFor, KeepsData, ReadsRow, WritesData, reply_of};
-ghost use Rattle.chan_calls.specs.Stepping.{IsStepped, MakesWrite};
-ghost use Rattle.chan_calls.specs.Ready.{HasBuffers, IsReplyOf};
-ghost use Rattle.chan_calls.specs.Workers.{MayCall, WorkerState};
+ghost use Rattle.chan_calls.specs.Ready.{HasBuffers};
+ghost use Rattle.chan_calls.specs.Workers.{WorkerState};
 ghost use Rattle.retry_ladder.specs.Decoder.{IsCodeOf};
-ghost use Rattle.ssd_histories.specs.PastRows.{serial_of};
 ghost use Rattle.ssd_geo.specs.Limits.{is_level};
 
-use crate::climb::climb;
-use crate::encoding::encode_page;
-use crate::gate::{Gate, Moment, Point};
 use crate::page_decoder::PageDecoder;
-use crate::read_reply::ReadReply;
-use crate::steps::Steps;
-use chan_state::{LookAnswer, WriteAnswer};
 use ldpc_decode::{Decoder, Lanes};
-use page_head::payload_into;
 use qc_matrix::Code;
 use retry_ladder::{Answer, Ask, Ladder};
-use ssd_geo::{Items, Memory, Shape, StepStop, Tag};
+use ssd_geo::{Items, Memory, Shape};
 use std::alloc::Global;
 use std::marker::Model;
+
+mod copying;
+mod reading;
+mod writing;
 
 // Room for one page on its way: its payload, a codeword and its word.
 #[derive(Drop)]
@@ -53,24 +46,6 @@ impl Model for Worker {
     ghost view = { worker_state };
 
     ghost invariant = { IsReady };
-}
-
-// The serial of a call's write.
-fn serial_of(session: u32, tag: Tag) -> u64
-    requires { session < 2 ^ 24 }
-    ensures { result ≡ serial_of session tag }
-{
-    (session as u64) * (1 << 40) + (tag.actor as u64) * (1 << 32) + tag.call as u64
-}
-
-// The reply that a ladder's answer gives.
-fn reply_of(answer: Answer) -> ReadReply
-    ensures { IsReplyOf answer result }
-{
-    match answer {
-        Answer::Recovered { rung } => ReadReply::Bytes { rung },
-        Answer::Uncorrectable => ReadReply::Uncorrectable,
-    }
 }
 
 // A list of so many zeros.
@@ -153,85 +128,5 @@ impl Worker {
         ensures { result.now ≡ self.now.shape }
     {
         &self.shape
-    }
-
-    /// Reads a row.
-    pub fn read<S: Steps, G: Gate>(
-        &mut self,
-        steps: &mut S,
-        gate: &G,
-        tag: Tag,
-        row: u32,
-    ) -> Result<ReadReply, StepStop>
-        requires actor { Serves (S.view steps.old) tag.actor }
-        requires row { row < self.old.shape.rows }
-        requires may { MayCall self.old (S.view steps.old) (S.stands steps.old) }
-        ensures worker { self.new ≡ record self.old { data_bytes = self.new.data_bytes } }
-        ensures keeps { KeepsData self.old self.new result }
-        ensures caller { SameCaller (S.view steps.old) (S.view steps.new) }
-        ensures room { IsStepped HasLookRoom (λ now reply seen. ⊤) tag
-            (S.view steps.old) (S.view steps.new) result }
-        ensures goes_on { GoesOnFor self.old
-            (S.view steps.old) (S.view steps.new) (S.stands steps.old) (S.stands steps.new) }
-        ensures ok { IfOk result (λ reply. ReadsRow self.old (S.view steps.old) (S.stands steps.old)
-            tag row (S.view steps.new).seen (reply_of reply self.new.data_bytes)) }
-    {
-        match steps.look(tag, row)? {
-            LookAnswer::Empty => Ok(ReadReply::Empty),
-            LookAnswer::Lost => Ok(ReadReply::Uncorrectable),
-            LookAnswer::Found(look) => {
-                self.ladder.begin(&look);
-                climb(
-                    &mut self.ladder,
-                    &mut self.decoder,
-                    &mut self.room.word,
-                    steps,
-                    gate,
-                    tag,
-                    &look,
-                );
-                let answer = self.ladder.answer();
-                steps.leave(tag, look.at);
-                Ok(reply_of(answer))
-            }
-        }
-    }
-
-    /// Writes data to a row, where the host has room for it.
-    pub fn write_once<S: Steps, G: Gate>(
-        &mut self,
-        steps: &mut S,
-        gate: &G,
-        tag: Tag,
-        row: u32,
-        bytes: &[u8],
-    ) -> Result<WriteAnswer, StepStop>
-        requires actor { Serves (S.view steps.old) tag.actor }
-        requires row { row < self.old.shape.rows }
-        requires bytes { length bytes.now ≡ self.old.shape.bytes }
-        requires takes { TakesData (S.view steps.old) tag bytes.now }
-        requires may { MayCall self.old (S.view steps.old) (S.stands steps.old) }
-        ensures worker { self.new ≡ self.old }
-        ensures caller { SameCaller (S.view steps.old) (S.view steps.new) }
-        ensures made { IsStepped HasStepRoom (MakesWrite tag row) tag
-            (S.view steps.old) (S.view steps.new) result }
-        ensures goes_on { WritesData self.old
-            (S.view steps.old) (S.view steps.new) (S.stands steps.old) (S.stands steps.new)
-            tag bytes.now result }
-    {
-        let serial = serial_of(self.session, tag);
-        payload_into(&self.shape, serial, row, bytes, &mut self.room.payload);
-        gate.pass(Point {
-            tag,
-            moment: Moment::Encode,
-        });
-        encode_page(
-            &self.shape,
-            self.decoder.code(),
-            &self.room.payload,
-            &mut self.room.code,
-            &mut self.room.word,
-        );
-        steps.write(tag, row, &self.room.word)
     }
 }

@@ -7,7 +7,7 @@ use Rattle.ssd_geo.specs.Ladder.{LadderState, asks}
 use Rattle.chan_calls.specs.Caller.{CallerView}
 use Rattle.chan_calls.specs.Climbing.{Climbs, IsLadderOf}
 use Rattle.chan_calls.proofs.AddedKinds.{same_caller_on}
-use Rattle.chan_calls.proofs.ClimbingLooks.{asks_at, climb_bound, climb_has_place, climb_may_sense, climb_on, fed_too, fewer_left, may_climb_too, same_decoder}
+use Rattle.chan_calls.proofs.ClimbingLooks.{asks_at, climb_bound, climb_fails, climb_has_place, climb_may_sense, climb_on, fed_too, fewer_left, may_climb_too, same_decoder}
 use Rattle.chan_calls.proofs.climb.climb.Goals as goal
 
 pub sense-requires-clause-may : goal.sense-requires-clause-may
@@ -76,8 +76,8 @@ loop-place-smaller g c =
     (may_climb_too c.args.ladder.now ladder matrix limit old
     (g.S.Steps.stands c.args.steps.now) c.args.look.now inv.ladder c.requires.may)
     inv.climbed.2 (g.S.Steps.view c.sense.new.self) (g.S.Steps.stands c.sense.new.self)
-    c.in-At.place c.in-At.level c.sense.new.out asking inv.caller
-    (simp to_z-of_z at c.sense.ensures.made)
+    c.in-At.place c.in-At.level _ c.sense.new.out asking inv.caller
+    (simp to_z-of_z at c.in-Sensed.ensures.made)
 
 pub loop-place-preserved : goal.loop-place-preserved
 loop-place-preserved g c =
@@ -117,7 +117,26 @@ loop-place-preserved g c =
             inv.climbed.1
             (may_climb_too first ladder matrix limit old stood c.args.look.now inv.ladder
             c.requires.may)
-            inv.climbed.2 next after c.in-At.place c.in-At.level bits asking inv.caller
-            (simp to_z-of_z at c.sense.ensures.made)),
+            inv.climbed.2 next after c.in-At.place c.in-At.level _ bits asking inv.caller
+            (simp to_z-of_z at c.in-Sensed.ensures.made)),
       );
     }
+
+pub returns-in-DieFault-clause-ended : goal.returns-in-DieFault-clause-ended
+returns-in-DieFault-clause-ended g c =
+    let inv = c.loop-place.invariant in
+    let ladder = c.loop-place.ladder in
+    let matrix = c.args.decoder.now.decoder.code in
+    let limit = c.args.decoder.now.decoder.limit in
+    let old = g.S.Steps.view c.args.steps.now in
+    let new = g.S.Steps.view c.loop-place.steps in
+    let fits : FitsSigned w16 c.in-At.level = search rules in
+    let asking : state_in ladder ≡ asks c.in-At.place c.in-At.level =
+    asks_at (state_in ladder) c.in-At.place c.in-At.level c.in-At.ensures in
+    climb_fails ladder matrix limit old new (g.S.Steps.stands c.args.steps.now)
+    (g.S.Steps.stands c.loop-place.steps) c.args.tag c.args.look.now inv.climbed.0 inv.climbed.1
+    (may_climb_too c.args.ladder.now ladder matrix limit old
+    (g.S.Steps.stands c.args.steps.now) c.args.look.now inv.ladder c.requires.may)
+    inv.climbed.2 (g.S.Steps.view c.sense.new.self) (g.S.Steps.stands c.sense.new.self)
+    c.in-At.place c.in-At.level _ c.sense.new.out c.in-DieFault.die c.args.ladder.now inv.ladder asking
+    inv.caller (simp to_z-of_z at c.in-DieFault.ensures.made)

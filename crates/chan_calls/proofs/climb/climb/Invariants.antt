@@ -3,7 +3,7 @@
 use Rattle.std.proofs.Common.{◌≡◌, ◌-◌, length}
 use Rattle.chan_calls.specs.Caller.{SameCaller}
 use Rattle.chan_calls.specs.Climbing.{HasClimbed, IsLadderOf}
-use Rattle.chan_state.specs.TablesState.{senses_had}
+use Rattle.chan_tables.specs.TablesState.{senses_had}
 use Rattle.ssd_geo.specs.Coding.{word_bytes_in}
 use Rattle.chan_calls.proofs.climb.climb.Given as goal
 

@@ -61,8 +61,7 @@ returns-clause-goes_on g c =
     let new = g.S.Steps.view c.write.new.self in
     let stood : Standing = g.S.Steps.stands c.args.steps.now in
     let stands : Standing = g.S.Steps.stands c.write.new.self in
-    subst (λ (seen : WorkerState). WritesData seen old new stood stands c.args.tag c.args.bytes.now
-    c.write.result) c.self.view_is
+    subst (λ (seen : WorkerState). WritesData seen old new stood stands c.args.tag c.args.bytes.now)
+    c.self.view_is
     (writes_data worker old new stood stands c.args.tag c.args.row c.args.bytes.now
-    c.serial_of-serial.result word c.write.result c.serial_of-serial.ensures encoded
-    c.write.ensures.goes_on)
+    c.serial_of-serial.result word c.serial_of-serial.ensures encoded c.write.ensures.goes_on)
