@@ -1,8 +1,6 @@
 -- What a call made on its channel: it was served alone, its reply is that of its own steps, and it took no hint.
-use Rattle.std.proofs.Common.{ℕ, ◌≡◌, ◌%◌, Bool, true, false, cond, List, [], ◌∷◌, ◌++◌, length, Some, refl, sym, ap, subst, ◌∙◌, arith}
-use Rattle.std.specs.Prelude.{All, slice_get, IsSomeAnd}
-use Rattle.std.proofs.lemmas.List.Elements.{All-head, All-tail}
-use Rattle.std.proofs.lemmas.List.Sums.{sum_by-cons}
+use Rattle.std.proofs.Common.{ℕ, ◌≡◌, ◌%◌, Bool, true, false, List, [], ◌∷◌, ◌++◌, length, Some, refl, sym, ap, subst, ◌∙◌, arith}
+use Rattle.std.specs.Prelude.{slice_get, IsSomeAnd}
 use Rattle.ssd_histories.specs.CallSteps.{CallStep, steps_of}
 use Rattle.ssd_histories.specs.CallsInOrder.{ChannelRun, IsReplyBy, OfRun}
 use Rattle.ssd_formats.specs.RunText.{is_hinted, taken_by}
@@ -15,16 +13,10 @@ use Rattle.ssd_geo.specs.declared.reply.Reply.{Reply}
 use Rattle.ssd_geo.specs.declared.tag.Tag.{Tag}
 use Rattle.ssd_geo.specs.declared.trace.Verb.{Verb}
 use Rattle.serial_laws.proofs.NumberedTags.{same_tag}
-use Rattle.run_laws.specs.WrittenRoom.{is_write, is_write_to, writes_in}
 
 -- the run of a channel with a start and a past
 abbrev pub run_of : Start → List Entry → ChannelRun
 run_of start past = record { start = start; past = past }
-
--- a past with entries of these kinds by one call, the newest first
-abbrev pub grown : Tag → List Kind → List Entry → List Entry
-grown tag [] past = past
-grown tag (kind ∷ kinds) past = entry_of tag kind ∷ grown tag kinds past
 
 -- a call has one more step by its own entry
 pub one_step_more : (tag : Tag) (kind : Kind) (past : List Entry) (steps : List CallStep) → steps_of tag past ≡ steps →
@@ -32,10 +24,6 @@ pub one_step_more : (tag : Tag) (kind : Kind) (past : List Entry) (steps : List 
 one_step_more tag kind past steps are =
     rw (same_tag tag, steps_of)
     (ap (λ (before : List CallStep). before ++ record { past = past; entry = entry_of tag kind } ∷ []) are)
-
--- how many entries of a call are writes to a channel
-abbrev pub one_write : ℕ → ℕ → Verb → ℕ
-one_write channels channel verb = cond (is_write_to channels channel verb) 1 0
 
 -- a run after a call's reply: a page is pushed where that is a hint
 abbrev pub with_hint_of : ℕ → Reply → SerialState → SerialState
@@ -85,17 +73,3 @@ same_Some a b e = grind arith
 -- the one step of an entry
 abbrev pub one_step : Tag → Kind → List Entry → List CallStep
 one_step tag kind past = record { past = past; entry = entry_of tag kind } ∷ []
-
--- entries that aren't writes add none to the writes of a past
-pub no_more_writes : (tag : Tag) (kinds : List Kind) (past : List Entry) →
-    All (λ kind. is_write kind ≡ false) kinds → writes_in (grown tag kinds past) ≡ writes_in past
-no_more_writes tag [] past none = refl
-no_more_writes tag (kind ∷ kinds) past none =
-    let more =
-    sum_by-cons (λ (entry : Entry). cond (is_write entry.kind) 1 0) (entry_of tag kind)
-    (grown tag kinds past) in
-    let own : ◌≡◌ {A = ℕ} (cond (is_write kind) 1 0) 0 =
-    ap {B = ℕ} (λ b. cond b 1 0) (All-head (λ kind. is_write kind ≡ false) kind kinds none) in
-    let older =
-    no_more_writes tag kinds past (All-tail (λ kind. is_write kind ≡ false) kind kinds none) in
-    omega (arith, more, own, older)

@@ -16,8 +16,8 @@ use Rattle.ssd_geo.specs.declared.slot.Slot.{Slot}
 use Rattle.ssd_geo.specs.declared.tag.Tag.{Tag}
 use Rattle.ssd_formats.proofs.TextLaws.{same_byte}
 use Rattle.ssd_histories.specs.ServedCalls.{after_leave, after_look, after_sensing}
-use Rattle.run_laws.proofs.MadeCalls.{grown, one_step_more}
-use Rattle.run_laws.proofs.SenseSteps.{all_senses, decided_behind, sense_kinds, sense_steps, senses_are_steps, senses_grow, senses_lead}
+use Rattle.run_laws.proofs.MadeCalls.{one_step_more}
+use Rattle.run_laws.proofs.SenseSteps.{all_senses, decided_behind, sense_steps, senses_are_steps, senses_lead}
 
 -- a ladder that gives a reply has an answer
 answers : (count : ℕ) (state : LadderState) (reply : Reply) → reply_of_ladder count state ≡ Some reply →
@@ -29,10 +29,10 @@ answers count uncorrectable reply is = refl
 module _ (tag : Tag) (row : ℕ) (slot : Slot) (serial : ℕ) (closed : Bool) (senses : List (Place × ℤ))
     (past : List Entry) where
   -- the look and the leave
-  abbrev pub look_kind : Kind
+  abbrev look_kind : Kind
   look_kind = Kind.Look row (Row.Page slot serial) closed
 
-  abbrev pub leave_kind : Kind
+  abbrev leave_kind : Kind
   leave_kind = Kind.Leave (length past)
 
   abbrev looked : List Entry
@@ -43,15 +43,6 @@ module _ (tag : Tag) (row : ℕ) (slot : Slot) (serial : ℕ) (closed : Bool) (s
 
   abbrev has_left : List Entry
   has_left = after_leave tag row slot serial closed senses past
-
-  -- the kinds of all entries, the newest first
-  abbrev pub read_kinds : List Kind
-  read_kinds = leave_kind ∷ sense_kinds (length past) senses (look_kind ∷ [])
-
-  pub read_grows : has_left ≡ grown tag read_kinds past
-  read_grows =
-      ap {B = List Entry} (λ (before : List Entry). entry_of tag leave_kind ∷ before)
-      (senses_grow tag (length past) senses (look_kind ∷ []) past)
 
   abbrev look_step : CallStep
   look_step = record { past = past; entry = entry_of tag look_kind }

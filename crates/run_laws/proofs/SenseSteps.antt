@@ -1,9 +1,7 @@
 -- The senses of a look, which its call made one after the other: the entries that they are, and the call's steps. None decides
 -- the reply of a read.
 use Rattle.std.proofs.Common.{ℕ, ◌≡◌, true, List, [], ◌∷◌, ◌++◌, ℤ, Option, None, refl, sym, ◌∙◌, append_assoc, append-nil}
-use Rattle.std.specs.Prelude.{All}
 use Rattle.std.specs.List.{list_all}
-use Rattle.std.proofs.lemmas.List.Elements.{All-cons}
 use Rattle.ssd_histories.specs.CallSteps.{CallStep, is_sense_of, steps_of}
 use Rattle.ssd_histories.specs.Replies.{first_reply}
 use Rattle.ssd_histories.specs.SerialCalls.{AreStepsFrom, entry_of}
@@ -13,28 +11,7 @@ use Rattle.ssd_geo.specs.declared.place.Place.{Place}
 use Rattle.ssd_geo.specs.declared.tag.Tag.{Tag}
 use Rattle.ssd_formats.proofs.TextLaws.{same_byte}
 use Rattle.ssd_histories.specs.ServedCalls.{after_senses}
-use Rattle.run_laws.proofs.MadeCalls.{grown, one_step_more}
-
--- the kinds of some senses, the newest first, before older ones
-abbrev pub sense_kinds : ℕ → List (Place × ℤ) → List Kind → List Kind
-sense_kinds at [] kinds = kinds
-sense_kinds at (sensed ∷ more) kinds = sense_kinds at more (Kind.Sense at sensed.0 sensed.1 ∷ kinds)
-
-pub senses_grow : (tag : Tag) (at : ℕ) (senses : List (Place × ℤ)) (kinds : List Kind)
-    (past : List Entry) →
-    after_senses tag at senses (grown tag kinds past) ≡ grown tag (sense_kinds at senses kinds) past
-senses_grow tag at [] kinds past = refl
-senses_grow tag at (sensed ∷ more) kinds past =
-    senses_grow tag at more (Kind.Sense at sensed.0 sensed.1 ∷ kinds) past
-
--- what holds of each sense and of the older kinds holds of all
-pub all_sense_kinds : (P : Kind → Type 0) (at : ℕ) (senses : List (Place × ℤ)) (kinds : List Kind) →
-    ((place : Place) (level : ℤ) → P (Kind.Sense at place level)) → All P kinds →
-    All P (sense_kinds at senses kinds)
-all_sense_kinds P at [] kinds each all = all
-all_sense_kinds P at (sensed ∷ more) kinds each all =
-    all_sense_kinds P at more (Kind.Sense at sensed.0 sensed.1 ∷ kinds) each
-    (All-cons P (Kind.Sense at sensed.0 sensed.1) kinds (each sensed.0 sensed.1) all)
+use Rattle.run_laws.proofs.MadeCalls.{one_step_more}
 
 -- the steps of some senses, from a past on
 abbrev pub sense_steps : Tag → ℕ → List (Place × ℤ) → List Entry → List CallStep

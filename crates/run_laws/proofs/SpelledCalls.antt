@@ -273,6 +273,18 @@ module _ (start : Start) (contents : List (Tag × List ℕ)) (is_start : IsStart
           bad_write_spelled start is_start contents past (failed_spelled row older here.0 (older_found kind past found))
           (short_of past 1 fits) tag small row one.0 one.1 false here.1
 
+      -- a write that stopped after some of them
+      pub stops_spelled : (row : ℕ) (failed : List (Slot × ℕ)) → length before ≤ start.limit →
+          IsLawfulPast (after_failed tag row failed before) → found_room start.limit (after_failed tag row failed before) ≡ true →
+          Keeps (after_failed tag row failed before)
+      stops_spelled row [] short here found = (spelled, short)
+      stops_spelled row (one ∷ older) short here found =
+          let past : List Entry = after_failed tag row older before in
+          let kind : Kind = Kind.BadWrite row one.0 one.1 false in (
+            failed_spelled row (one ∷ older) here found,
+            one_fits (entry_of tag kind) past (step_fits past (newest_fits kind past found)),
+          )
+
       -- the last entry of a write
       by_last : (row : ℕ) (past : List Entry) (last : Kind) → list_all is_spelled_entry past ≡ true → is_write_end row last ≡ true →
           IsLawfulPast (entry_of tag last ∷ past) → found_room start.limit (entry_of tag last ∷ past) ≡ true →

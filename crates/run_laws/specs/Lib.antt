@@ -11,4 +11,3 @@ pub mod SerialRuns
 pub mod Serials
 pub mod Starts
 pub mod StoppedRuns
-pub mod WrittenRoom

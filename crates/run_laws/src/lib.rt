@@ -6,7 +6,7 @@ mod pages;
 mod serial;
 mod serving;
 
-pub use pages::{lost_rows_were_condemned, pages_are_read_at_once, uncollected_pasts_have_room};
+pub use pages::{lost_rows_were_condemned, pages_are_read_at_once};
 pub use serial::{
     serial_runs_begin, serial_runs_go_on, serial_runs_hold, serial_stops_hold, served_fronts_stop,
 };

@@ -1,12 +1,5 @@
 //! Laws of the pages that a channel holds.
 ghost use Rattle.run_laws.specs.FirstSenses.{LostRowsWereCondemned, PagesAreReadAtOnce};
-ghost use Rattle.run_laws.specs.WrittenRoom.{UncollectedPastsHaveRoom};
-
-/// The host has room on a channel of a blank drive exactly while fewer pages than fit were written to it, as long as nothing
-/// was collected there.
-pub fn uncollected_pasts_have_room()
-    ensures { UncollectedPastsHaveRoom }
-{}
 
 /// Where no block was aged, a page that a row names is recovered from the first sense of a look, and has the data of the
 /// row's latest write: in every lawful past, whatever was copied, erased or failed.

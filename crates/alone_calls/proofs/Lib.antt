@@ -1,0 +1,2 @@
+pub mod RepliedReads
+pub mod TriedWrites
