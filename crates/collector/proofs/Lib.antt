@@ -1,0 +1,10 @@
+pub mod AloneReplies
+pub mod AloneRounds
+pub mod AloneWrites
+pub mod EmptyingSteps
+pub mod FirstCallers
+pub mod GrownPasts
+pub mod KeptVictims
+pub mod LiveSlots
+pub mod RoundSteps
+pub mod WriteSteps

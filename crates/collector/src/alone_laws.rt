@@ -1,0 +1,42 @@
+//! Laws of collections. Each is the contract of a function that does nothing but bring in the laws
+//! that its proof needs.
+ghost use Rattle.collector.specs.Alone.{CollectsAloneAreCollects, RoundsAloneAreRounds, WritesAloneAreWrites};
+ghost use Rattle.collector.specs.AloneReplies.{CollectsAloneAreReplied, RoundsAloneAreReplied, WritesAloneAreReplied};
+
+use chan_calls::copies_alone_are_copies;
+
+/// The rounds of a caller that is alone are those of calls that are served one after the other.
+pub fn rounds_alone_are_rounds()
+    ensures { RoundsAloneAreRounds }
+{
+    copies_alone_are_copies();
+}
+
+/// The writes of a caller that is alone are those of calls that are served one after the other.
+pub fn writes_alone_are_writes()
+    ensures { WritesAloneAreWrites }
+{
+    copies_alone_are_copies();
+}
+
+/// The collects of a caller that is alone are those of calls that are served one after the other.
+pub fn collects_alone_are_collects()
+    ensures { CollectsAloneAreCollects }
+{
+    copies_alone_are_copies();
+}
+
+/// The reply of a write of a caller that is alone is the one that its entries decide.
+pub fn writes_alone_are_replied()
+    ensures { WritesAloneAreReplied }
+{}
+
+/// So is that of a round.
+pub fn rounds_alone_are_replied()
+    ensures { RoundsAloneAreReplied }
+{}
+
+/// So is that of a collect.
+pub fn collects_alone_are_replied()
+    ensures { CollectsAloneAreReplied }
+{}
