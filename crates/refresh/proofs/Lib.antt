@@ -1,0 +1,3 @@
+mod AloneRefreshes
+pub mod CopiedPages
+pub mod FaultReplies
