@@ -1,0 +1,2 @@
+pub mod BlankImages
+pub mod FactoryBad

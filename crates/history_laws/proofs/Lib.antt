@@ -1,0 +1,17 @@
+pub mod AskedPlaces
+pub mod BlankChannels
+pub mod Counting
+pub mod EmptiedVictims
+pub mod Emptying
+pub mod FreshestBlocks
+pub mod HeldPages
+pub mod KeptReserve
+pub mod LivePages
+pub mod LooksInRange
+pub mod NeverFull
+pub mod NewestLooks
+pub mod NextSlots
+pub mod NoWeakBlocks
+pub mod ProgrammedBlocks
+pub mod StaleCopies
+pub mod VictimPages

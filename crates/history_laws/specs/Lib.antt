@@ -1,0 +1,9 @@
+pub mod BlankChannels
+pub mod EmptiedVictims
+pub mod Emptying
+pub mod HeldPages
+pub mod KeptReserve
+pub mod LivePages
+pub mod LostReserve
+pub mod NeverFull
+pub mod StaleCopies
