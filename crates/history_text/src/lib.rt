@@ -6,6 +6,7 @@ mod call_counts;
 mod counts;
 mod entries;
 mod fault;
+mod kind_words;
 mod put;
 mod put_words;
 mod read;
@@ -13,10 +14,8 @@ mod replies;
 mod run;
 mod summary;
 mod word;
+mod words;
 
 pub use fault::HistoryFault;
 pub use read::read_history;
 pub use run::print_run;
-
-#[cfg(test)]
-mod tests;

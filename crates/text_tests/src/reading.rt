@@ -1,56 +1,8 @@
-//! Histories read back from texts that were written by hand.
-use super::kinds::{each_entry, each_entry_history};
-use super::{one_page, one_page_history, one_page_text};
-use crate::{HistoryFault, read_history};
-use ssd_geo::{CellLaw, ImageHead, Items, Shape};
+//! Histories read back from texts that were written by hand, most of them wrong in one line.
+use crate::small_runs::{ONE_PAGE_ANSWERS, ONE_PAGE_HISTORY, head_of};
+use history_text::{HistoryFault, read_history};
 use std::alloc::Global;
-use std::process::Abort;
 use std::test::Fail;
-
-// The head of an image with so many channels.
-fn head_of(alloc: Global, channels: u8) -> Result<ImageHead, Fail> {
-    Ok(ImageHead {
-        shape: Shape::new(1, channels, 3, 4, 2, 64, 3, 6, 8, 8)?,
-        read_levels: Items::new(Vec::new(alloc)),
-        iterations: 8,
-        law: CellLaw {
-            erased: -100,
-            programmed: 100,
-            spread: 0,
-            seed: 1,
-        },
-        step: 10,
-        session: 0,
-        entries: Items::new(Vec::new(alloc)),
-        weak: Items::new(Vec::new(alloc)),
-        bad: Items::new(Vec::new(alloc)),
-        full: false,
-        place: 0,
-    })
-}
-
-#[test]
-fn the_lines_of_each_kind_are_read_back(rt: HostRuntime) -> Result<(), Fail> {
-    let alloc = rt.alloc();
-    let (text, histories) = (each_entry_history(alloc)?, each_entry(alloc)?);
-    let read = read_history(alloc, &text, &head_of(alloc, 3)?)?;
-    assert!(rt; read.as_slice() == histories.as_slice());
-    Ok(())
-}
-
-#[test]
-fn a_page_written_and_read_is_read_back_and_its_whole_run_is_not(
-    rt: HostRuntime,
-) -> Result<(), Fail> {
-    let alloc = rt.alloc();
-    let (head, histories) = (head_of(alloc, 1)?, one_page(alloc)?);
-    let whole = one_page_text(alloc, true)?;
-    let read = read_history(alloc, &whole, &head);
-    assert!(rt; read.is_err_and(|fault| fault == HistoryFault::Line { line: 6 }));
-    let read = read_history(alloc, one_page_history(), &head)?;
-    assert!(rt; read.as_slice() == histories.as_slice());
-    Ok(())
-}
 
 // The number of the line that is wrong, or 0 where the text is read.
 fn wrong_line(alloc: Global, channels: u8, text: &[u8]) -> Result<u64, Fail> {
@@ -59,6 +11,15 @@ fn wrong_line(alloc: Global, channels: u8, text: &[u8]) -> Result<u64, Fail> {
         Err(HistoryFault::Line { line }) => Ok(line),
         Err(HistoryFault::Memory) => Err(HistoryFault::Memory.into()),
     }
+}
+
+#[test]
+fn a_whole_run_is_more_than_its_history(rt: HostRuntime) -> Result<(), Fail> {
+    let alloc = rt.alloc();
+    let mut text = ONE_PAGE_HISTORY.to_vec(alloc)?;
+    text.extend_from_slice(ONE_PAGE_ANSWERS)?;
+    assert_eq!(rt; wrong_line(alloc, 1, &text)?, 6);
+    Ok(())
 }
 
 // A text behind another, in which a slash stands for LF.
@@ -90,8 +51,7 @@ fn first_other(
     Ok(None)
 }
 
-fn lines_of_a_channel() -> &'static [u8] {
-    b"0 channel 0 0/\n\
+const LINES_OF_A_CHANNEL: &[u8] = b"0 channel 0 0/\n\
       1 \n\
       1 channel 1 0/\n\
       1 channel 00 0/\n\
@@ -104,24 +64,20 @@ fn lines_of_a_channel() -> &'static [u8] {
       1 channel 0 0\n\
       1 /channel 0 0/\n\
       2 channel 0 0/channel 1 0/\n\
-      2 channel 0 0//"
-}
+      2 channel 0 0//";
 
-fn lines_of_two_channels() -> &'static [u8] {
-    b"0 channel 0 0/channel 1 0/\n\
-      2 channel 0 0/"
-}
+const LINES_OF_TWO_CHANNELS: &[u8] = b"0 channel 0 0/channel 1 0/\n\
+      2 channel 0 0/";
 
 #[test]
 fn a_channel_tells_its_number_and_its_entries(rt: HostRuntime) -> Result<(), Fail> {
     let alloc = rt.alloc();
-    assert_eq!(rt; first_other(alloc, 1, b"", lines_of_a_channel())?, None);
-    assert_eq!(rt; first_other(alloc, 2, b"", lines_of_two_channels())?, None);
+    assert_eq!(rt; first_other(alloc, 1, b"", LINES_OF_A_CHANNEL)?, None);
+    assert_eq!(rt; first_other(alloc, 2, b"", LINES_OF_TWO_CHANNELS)?, None);
     Ok(())
 }
 
-fn lines_of_entries() -> &'static [u8] {
-    b"0 channel 0 1/0 0.0 trim 5/\n\
+const LINES_OF_ENTRIES: &[u8] = b"0 channel 0 1/0 0.0 trim 5/\n\
       3 channel 0 2/0 0.0 trim 5/\n\
       3 channel 0 1/0 0.0 trim 5/1 0.0 trim 5/\n\
       2 channel 0 1/0 0.0 trim 5\n\
@@ -138,22 +94,12 @@ fn lines_of_entries() -> &'static [u8] {
       2 channel 0 1/0 0.4294967296 trim 5/\n\
       2 channel 0 1/0 0.0  trim 5/\n\
       2 channel 0 1/ 0 0.0 trim 5/\n\
-      2 channel 0 1/0 0.0 trim 5 /"
-}
-
-#[test]
-fn the_first_wrong_line_of_entries_is_named(rt: HostRuntime) -> Result<(), Fail> {
-    assert_eq!(rt; first_other(rt.alloc(), 1, b"", lines_of_entries())?, None);
-    Ok(())
-}
+      2 channel 0 1/0 0.0 trim 5 /";
 
 // What stands before the words of an entry.
-fn front_of_an_entry() -> &'static [u8] {
-    b"channel 0 1\n0 0.0 "
-}
+const FRONT: &[u8] = b"channel 0 1\n0 0.0 ";
 
-fn words_with_numbers() -> &'static [u8] {
-    b"0 write 4294967295 65535.4294967295/\n\
+const WORDS_WITH_NUMBERS: &[u8] = b"0 write 4294967295 65535.4294967295/\n\
       2 write 05 0.0/\n\
       2 write +5 0.0/\n\
       2 write 5a 0.0/\n\
@@ -174,18 +120,9 @@ fn words_with_numbers() -> &'static [u8] {
       2 sense 1 1.0 0/\n\
       2 pick 65536/\n\
       2 age 256.0 1/\n\
-      2 note 65536 - 0 0 0/"
-}
+      2 note 65536 - 0 0 0/";
 
-#[test]
-fn numbers_have_one_spelling_and_fit_their_fields(rt: HostRuntime) -> Result<(), Fail> {
-    let other = first_other(rt.alloc(), 1, front_of_an_entry(), words_with_numbers())?;
-    assert_eq!(rt; other, None);
-    Ok(())
-}
-
-fn words_of_no_kind() -> &'static [u8] {
-    b"2 /\n\
+const WORDS_OF_NO_KIND: &[u8] = b"2 /\n\
       2 wrote 5 0.0/\n\
       2 write 5/\n\
       2 write 5 0.0 0/\n\
@@ -204,12 +141,13 @@ fn words_of_no_kind() -> &'static [u8] {
       2 fault leave 3/\n\
       2 fault sense 1 1.2.10/\n\
       2 note 4 - 0 0/\n\
-      2 note 4 -1 0 0 0/"
-}
+      2 note 4 -1 0 0 0/";
 
 #[test]
-fn each_kind_has_its_words_and_no_others(rt: HostRuntime) -> Result<(), Fail> {
-    let other = first_other(rt.alloc(), 1, front_of_an_entry(), words_of_no_kind())?;
-    assert_eq!(rt; other, None);
+fn the_first_wrong_line_of_entries_is_named(rt: HostRuntime) -> Result<(), Fail> {
+    let alloc = rt.alloc();
+    assert_eq!(rt; first_other(alloc, 1, b"", LINES_OF_ENTRIES)?, None);
+    assert_eq!(rt; first_other(alloc, 1, FRONT, WORDS_WITH_NUMBERS)?, None);
+    assert_eq!(rt; first_other(alloc, 1, FRONT, WORDS_OF_NO_KIND)?, None);
     Ok(())
 }
