@@ -1,14 +1,20 @@
-//! The program: it hands the words of the command line, standard input and standard output to the top call, and
-//! tells its caller how that ended.
+//! The program: it hands the words of the command line, standard input and output, simulated dies and the policy of most garbage
+//! to the top call, and tells its caller how that ended.
 #![tactic(auto)]
 
+ghost use Rattle.std.specs.Prelude.{IfOk, map};
+ghost use Rattle.ssd_top.specs.HandedBack.{AreHandedIn};
+
+use die_model::SimDie;
+use onfi_cmd::Die;
 use ssd_geo::Word;
 use ssd_io::{ReadSource, WriteSink};
 use ssd_top::{Status, run, status_text};
-use std::alloc::AllocError;
+use std::alloc::{AllocError, Global};
 use std::io::{self, BufWriter, ErrorKind, Write};
 use std::process::ExitCode;
 use std::rt::Env;
+use victim::{Greedy, Policy};
 
 // The words of the command line behind the program's own. A list that can't be had has no word, and so is refused,
 // but for one that wants for memory.
@@ -26,6 +32,22 @@ fn words_of<R: Env + AllocGlobal>(rt: &R) -> Result<Vec<Word>, AllocError> {
     }
 }
 
+// The most channels of a drive, and the most dies on all of them.
+const CHANNELS: u8 = 8;
+
+const DIES: u8 = 64;
+
+// Simulated dies that aren't mounted yet.
+fn dies_of(alloc: Global) -> Result<Vec<SimDie>, AllocError>
+    ensures { IfOk result (λ dies. AreHandedIn (map ⟦<SimDie as Die>⟧.state dies.items)) }
+{
+    let mut dies = Vec::with_capacity(alloc, DIES as usize)?;
+    for _ in 0..DIES {
+        dies.push(SimDie::new())?;
+    }
+    Ok(dies)
+}
+
 // Serves the words over the standard streams. What was written is flushed before the status is told.
 fn serve<R: Env + AllocGlobal + Input + Print>(rt: &R) -> Result<Status, AllocError> {
     let words = words_of(rt)?;
@@ -34,7 +56,16 @@ fn serve<R: Env + AllocGlobal + Input + Print>(rt: &R) -> Result<Status, AllocEr
         return Ok(Status::OutOfMemory);
     };
     let mut output = WriteSink::new(&mut writer);
-    let status = run(rt.alloc(), &words, &mut input, &mut output);
+    let dies = dies_of(rt.alloc())?;
+    let mut policies: Vec<Box<dyn Policy + Send>> = Vec::with_capacity(
+        rt.alloc(),
+        CHANNELS as usize,
+    )?;
+    for _ in 0..CHANNELS {
+        policies.push_reserved(Box::new(rt.alloc(), Greedy::new())?);
+    }
+    let ended = run(rt.alloc(), &words, &mut input, &mut output, dies, policies);
+    let status = ended.status;
     match writer.flush() {
         Ok(()) => Ok(status),
         Err(_) => Ok(Status::WriteFault),

@@ -1,46 +1,258 @@
--- A drive that has begun is before the first call of its trace.
-use Rattle.std.proofs.Common.{ℕ, ◌≡◌, true, List, [], ◌++◌, take, drop, length, replicate, sym, ap, subst, ◌∙◌}
-use Rattle.std.proofs.Math.Seq.{take-append_seam}
-use Rattle.std.specs.Prelude.{All}
-use Rattle.chan_calls.specs.Workers.{WorkerState}
-use Rattle.chan_state.specs.ChannelState.{ChannelState}
-use Rattle.ssd_formats.specs.ImageHead.{Head, IsHead}
+-- The channels of a blank drive that stand at their starts, and its worker, are before the first call of a trace.
+use Rattle.std.proofs.Common.{ℕ, zero, suc, ◌≡◌, ◌+◌, ◌<◌, ◌≤◌, true, List, [], ◌∷◌, length, map, replicate, get_or, slice_get, take, All, Option, Some, None, refl, ap, sym, subst, ◌∙◌, arith}
+use Rattle.std.specs.List.{list_all, range_with_len}
+use Rattle.std.specs.Option.{option_map}
+use Rattle.std.proofs.lemmas.List.{get_or-take, length-map}
+use Rattle.std.proofs.lemmas.List.Elements.{All-nil, All-cons}
+use Rattle.std.proofs.lemmas.Option.{get_or_from_slice_get, slice_get-map, slice_get_within}
+use Rattle.std.proofs.lemmas.Simd.{map-map}
+use Rattle.blank_drive.proofs.SameSizes.{same_shape}
+use Rattle.blank_drive.specs.Begun.{StandAtStarts}
+use Rattle.chan_calls.specs.Workers.{WorkerState, WorksFor}
+use Rattle.chan_state.specs.ChannelState.{ChannelState, StandsFor}
+use Rattle.run_laws.specs.HandedCounts.{handed_by_channel, handed_to}
+use Rattle.run_laws.specs.Runs.{FaultCounts}
+use Rattle.run_laws.specs.Serials.{HasSmallSerial, HasSmallSerials}
+use Rattle.run_laws.specs.ServedRuns.{AreStartsOf, BeginsAs, IsUndrainedRun, contents_in}
+use Rattle.run_laws.specs.Starts.{Handed, start_of, starts_from, starts_of}
+use Rattle.run_laws.proofs.UndrainedRuns.{undrained_runs_begin}
+use Rattle.serial_laws.proofs.Lists.{all_at}
+use Rattle.ssd_formats.specs.HistoryText.{is_spelled_entry}
+use Rattle.ssd_formats.specs.ImageContents.{ChannelImage, blank_channel}
+use Rattle.ssd_formats.specs.ImageHead.{Head, head_of, matrix_of_head}
+use Rattle.ssd_formats.proofs.HeadLaws.{both_of}
+use Rattle.ssd_geo.specs.Coding.{matrix_of}
+use Rattle.ssd_geo.specs.Limits.{Sizes}
+use Rattle.ssd_geo.specs.Shape.{sizes_of}
+use Rattle.ssd_geo.specs.declared.entry.Entry.{Entry}
+use Rattle.ssd_geo.specs.declared.head.ImageHead.{ImageHead}
+use Rattle.ssd_geo.specs.declared.policy_view.PolicyView.{PolicyView}
+use Rattle.ssd_geo.specs.declared.row.Row.{Row}
+use Rattle.ssd_geo.specs.declared.shape.Shape.{Shape}
 use Rattle.ssd_geo.specs.declared.trace.Trace.{Trace}
+use Rattle.ssd_histories.specs.HistoryRoom.{found_room}
+use Rattle.ssd_histories.specs.Start.{Start}
 use Rattle.trace_text.specs.NumberedCalls.{IsNumbered}
-use Rattle.ssd_top.proofs.BegunDrives.{range_is, running_begins}
 use Rattle.ssd_top.proofs.FittingTraces.{are_numbered, fit_drive, have_data}
-use Rattle.ssd_top.specs.Begun.{AreBegun, IsWorkerOf}
-use Rattle.ssd_top.specs.Forms.{blank_input, is_served}
-use Rattle.ssd_top.specs.Running.{FitsDrive, IsRunning}
-use Rattle.ssd_top.specs.Workers.{settings}
+use Rattle.ssd_top.specs.Forms.{are_served, blank_input, is_served, is_served_drive}
+use Rattle.ssd_top.specs.Handed.{history_limit}
+use Rattle.ssd_top.specs.Running.{FitsDrive, IsChannelOf, IsRunning, Job, pasts_of}
+use Rattle.ssd_top.specs.Seen.{SeenChannel, seen}
+use Rattle.ssd_top.specs.Workers.{IsWorkerOf, settings}
 
--- channels that were written whole as a slice of their `Vec`
-pub written_channels : (count : ℕ) (written before : List ChannelState) → length written ≡ count → written ≡ take count (written ++ drop (length written) before)
-written_channels count written before long =
-    sym (ap (λ (n : ℕ). take n (written ++ drop (length written) before)) (sym long) ∙ take-append_seam written (drop (length written) before))
+-- what holds of the start of each of so many channels, from a number on
+module _ (shape : Shape) (head : Head) (limit : ℕ) (saved : ℕ → ChannelImage) (handed : ℕ → Handed) where
+  abbrev start_at : ℕ → Start
+  start_at number = start_of shape head limit number (saved number) (handed number)
 
--- a worker of a drive is one whatever data it recovered last
-pub settings_of_worker : (head : Head) (worker : WorkerState) → IsWorkerOf head worker → IsWorkerOf head (settings worker)
-settings_of_worker head worker is = record {
-  sizes_are = is.sizes_are;
-  session_is = is.session_is;
-  code_is = is.code_is;
-  iterations_are = is.iterations_are;
-  levels_are = is.levels_are;
-  step_is = is.step_is;
-}
+  abbrev starts_at : ℕ → ℕ → List Start
+  starts_at count from =
+      starts_from shape head limit from (map saved (range_with_len from count)) (map handed (range_with_len from count))
 
-pub run_begins : (head : Head) → IsHead head → (trace : Trace) → is_served (blank_input head trace) ≡ true → IsNumbered head.sizes trace
-    → (worker : WorkerState) → IsWorkerOf head worker → (channels seen : List ChannelState) → AreBegun head channels → seen ≡ channels
-    → IsRunning (blank_input head trace) (settings worker) seen [] (replicate trace.actors [])
-run_begins head is_head trace served numbered worker is_worker channels seen begun same =
-    let fits =
-    fit_drive head.sizes worker.shape is_worker.sizes_are (range_is 1 8 head.sizes.channels is_head.channels).0 trace.actors []
-    trace.calls numbered.calls in
-    subst (λ (list : List ChannelState). IsRunning (blank_input head trace) (settings worker) list [] (replicate trace.actors []))
+  as_many_starts : (count from : ℕ) → length (starts_at count from) ≡ count
+  as_many_starts zero from = refl
+  as_many_starts (suc count) from = ap suc (as_many_starts count (from + 1))
+
+  each_start : (P : Start → Type 0) → ((number : ℕ) → P (start_at number)) → (count from : ℕ) → All P (starts_at count from)
+  each_start P holds zero from = All-nil P
+  each_start P holds (suc count) from =
+      All-cons P (start_at from) (starts_at count (from + 1)) (holds from) (each_start P holds count (from + 1))
+
+  are_starts : ((number : ℕ) → BeginsAs head number (saved number) (start_at number)) → (count from : ℕ)
+      → AreStartsOf head from (map saved (range_with_len from count)) (starts_at count from)
+  are_starts begins zero from = tt
+  are_starts begins (suc count) from = (begins from, are_starts begins count (from + 1))
+
+-- channels without an entry have the pasts with which a run begins
+no_pasts : (starts : List Start) (channels : List SeenChannel) → length channels ≡ length starts
+    → ((number : ℕ) (channel : SeenChannel) → slice_get channels number ≡ Some channel → channel.kept.past ≡ [])
+    → (let none : List (List Entry) = map (λ start. []) starts in none) ≡ pasts_of channels
+no_pasts [] [] long none = refl
+no_pasts [] (channel ∷ channels) long none = absurd (omega arith)
+no_pasts (start ∷ starts) [] long none = absurd (omega arith)
+no_pasts (start ∷ starts) (channel ∷ channels) long none =
+    let later = no_pasts starts channels (omega (arith, long)) (λ number other at. none (suc number) other at) in
+    rw (none 0 channel refl, ← later) refl
+
+-- every row of empty ones is empty
+empty_at : (count row : ℕ) → get_or (replicate count Row.Empty) row Row.Empty ≡ Row.Empty
+empty_at zero row = refl
+empty_at (suc count) zero = refl
+empty_at (suc count) (suc row) = empty_at count row
+
+-- the views of the channels are those of the first policies
+view_of : (count number : ℕ) (channel : SeenChannel) (channels : List SeenChannel) (views : List (Option PolicyView))
+    → length channels ≡ count → map (λ other. other.view) channels ≡ take count views → slice_get channels number ≡ Some channel
+    → get_or views number None ≡ channel.view
+view_of count number channel channels views long views_are at =
+    let low : number < length channels = slice_get_within channels number channel at in
+    let there : slice_get (take count views) number ≡ Some channel.view =
+    ap (λ (all : List (Option PolicyView)). slice_get all number) (sym views_are)
+    ∙ slice_get-map (λ (other : SeenChannel). other.view) channels number
+    ∙ ap (option_map (λ (other : SeenChannel). other.view)) at in
+    sym (get_or-take count views number None (omega (arith, low, long)))
+    ∙ get_or_from_slice_get (take count views) number channel.view None there
+
+-- a worker of a blank drive, and channels that stand at its starts over dies with these counts and policies that tell these views
+module _ (head : ImageHead) (trace : Trace) (worker : WorkerState) (is_worker : IsWorkerOf (head_of head) worker)
+    (before : FaultCounts)
+    (views : List (Option PolicyView)) where
+  abbrev job : Job
+  job = record { input = blank_input (head_of head) trace; before = before; views = views }
+
+  abbrev saved : ℕ → ChannelImage
+  saved number = blank_channel (head_of head) number
+
+  abbrev handed : ℕ → Handed
+  handed number = handed_to head.shape.dies before views number
+
+  abbrev begun : ℕ → Start
+  begun number = start_of worker.shape (head_of head) history_limit number (saved number) (handed number)
+
+  abbrev starts : List Start
+  starts = starts_at worker.shape (head_of head) history_limit saved handed head.shape.channels 0
+
+  begins_as : (number : ℕ) → BeginsAs (head_of head) number (saved number) (begun number)
+  begins_as number = record {
+    is_base = record {
+      shape = is_worker.sizes_are;
+      session = refl;
+      blocks = refl;
+      rows = refl;
+      sum = refl;
+      number = refl;
+      entries = refl;
+      read_levels = refl;
+      iterations = refl;
+      step = refl;
+      law = refl;
+      weak = refl;
+    };
+    are_cells = refl;
+  }
+
+  -- the worker works for each start
+  works : (number : ℕ) → WorksFor (settings worker) (begun number)
+  works number =
+      let same_code : matrix_of_head (head_of head) ≡ matrix_of (begun number).base = λ i.
+      record {
+        z = (sym is_worker.sizes_are i).z;
+        mb = (sym is_worker.sizes_are i).mb;
+        nb = (sym is_worker.sizes_are i).nb;
+        entries = head.entries;
+      } in
+      record {
+        shape_is = refl;
+        session_is = is_worker.session_is;
+        code_is = is_worker.code_is ∙ same_code;
+        iterations_are = is_worker.iterations_are;
+        levels_are = is_worker.levels_are;
+        step_is = is_worker.step_is;
+      }
+
+  -- no row has a serial
+  small_serials : (number : ℕ) → HasSmallSerials (begun number).base
+  small_serials number row = subst HasSmallSerial (sym (empty_at head.shape.rows row)) tt
+
+  module _ (channels : List SeenChannel) (count : length channels ≡ head.shape.channels)
+      (stand : StandAtStarts head history_limit before views (map (λ channel. channel.kept) channels))
+      (views_are : map (λ channel. channel.view) channels ≡ take head.shape.channels views) where
+    kept_at : (number : ℕ) (channel : SeenChannel) → slice_get channels number ≡ Some channel
+        → slice_get (map (λ other. other.kept) channels) number ≡ Some channel.kept
+    kept_at number channel at =
+        slice_get-map (λ (other : SeenChannel). other.kept) channels number
+        ∙ ap (option_map (λ (other : SeenChannel). other.kept)) at
+
+    no_entry : (number : ℕ) (channel : SeenChannel) → slice_get channels number ≡ Some channel → channel.kept.past ≡ []
+    no_entry number channel at = stand.no_entries number channel.kept (kept_at number channel at)
+
+    is_channel : (number : ℕ) (start : Start) (channel : SeenChannel) → slice_get starts number ≡ Some start
+        → slice_get channels number ≡ Some channel → IsChannelOf job.input (settings worker) start channel
+    is_channel number start channel start_at_number at =
+        let all_work : All (WorksFor (settings worker)) starts =
+        each_start worker.shape (head_of head) history_limit saved handed (WorksFor (settings worker)) works
+        head.shape.channels 0 in
+        let no_past : channel.kept.past ≡ [] = no_entry number channel at in
+        let there :
+        slice_get (starts_of head.shape (head_of head) history_limit job.input.channels
+        (handed_by_channel head.shape.channels head.shape.dies before views)) number
+        ≡ Some start =
+        subst
+        (λ (shape : Shape). slice_get (starts_of shape (head_of head) history_limit job.input.channels
+        (handed_by_channel head.shape.channels head.shape.dies before views)) number ≡ Some start)
+        (same_shape worker.shape head.shape is_worker.sizes_are) start_at_number in
+        record {
+          works = all_at (WorksFor (settings worker)) starts number start all_work start_at_number;
+          stands =
+              subst (λ (view : Option PolicyView). StandsFor channel.kept view start (contents_in job.input))
+              (view_of head.shape.channels number channel channels views count views_are at)
+              (stand.each number start channel.kept (contents_in job.input) there (kept_at number channel at));
+          has_room = subst (λ (past : List Entry). found_room start.limit past ≡ true) (sym no_past) refl;
+          spelled = subst (λ (past : List Entry). list_all is_spelled_entry past ≡ true) (sym no_past) refl;
+          short = subst (λ (past : List Entry). length past ≤ start.limit) (sym no_past) (omega arith);
+        }
+
+    -- they are before the first call of a trace that is served
+    pub running_begins : is_served job.input ≡ true → IsNumbered (sizes_of head.shape) trace
+        → IsRunning job (settings worker) channels [] (replicate trace.actors [])
+    running_begins served numbered =
+        let as_many : length starts ≡ head.shape.channels =
+        as_many_starts worker.shape (head_of head) history_limit saved handed head.shape.channels 0 in
+        record {
+          starts = starts;
+          starts_are = refl;
+          sizes_are = is_worker.sizes_are;
+          is_served_from = record {
+            some_channel = omega (arith, as_many, head.shape.within.channels_low);
+            are_starts = are_starts worker.shape (head_of head) history_limit saved handed begins_as head.shape.channels 0;
+            same_bytes =
+                each_start worker.shape (head_of head) history_limit saved handed
+                (λ start. start.base.shape.bytes ≡ head.shape.bytes)
+                (λ number. ap (λ (sizes : Sizes). sizes.bytes) is_worker.sizes_are) head.shape.channels 0;
+            numbered = are_numbered (sizes_of head.shape) trace.actors [] trace.calls numbered.calls;
+            have_data = have_data (sizes_of head.shape) trace.actors [] trace.calls numbered.calls;
+          };
+          served =
+              subst (IsUndrainedRun (contents_in job.input) starts trace.actors [] (replicate trace.actors []))
+              (no_pasts starts channels (count ∙ sym as_many) no_entry)
+              (undrained_runs_begin (contents_in job.input) starts trace.actors);
+          are_channels = is_channel;
+          few_channels = omega (arith, count, head.shape.within.channels_high);
+          few_actors = numbered.actors_high;
+          few_calls = numbered.few;
+          fits =
+              subst (λ (most : ℕ). All (λ call. FitsDrive worker.shape most call.verb) trace.calls) (sym count)
+              (fit_drive (sizes_of head.shape) worker.shape is_worker.sizes_are head.shape.within.channels_low trace.actors []
+              trace.calls
+              numbered.calls);
+          serials =
+              each_start worker.shape (head_of head) history_limit saved handed (λ start. HasSmallSerials start.base)
+              small_serials
+              head.shape.channels 0;
+          all_served = (both_of (is_served_drive (head_of head)) (are_served trace.calls) served).1;
+        }
+
+-- so are channels whose `Vec` lent them as a slice
+pub run_begins : {A : Type 0} (items lent : List A) (kept : A → ChannelState) (view : A → Option PolicyView) (head : ImageHead)
+    (trace : Trace) (worker : WorkerState) → IsWorkerOf (head_of head) worker → (before : FaultCounts)
+    (views : List (Option PolicyView))
+    → lent ≡ items → length items ≡ head.shape.channels → StandAtStarts head history_limit before views (map kept items)
+    → map view items ≡ take head.shape.channels views → is_served (blank_input (head_of head) trace) ≡ true
+    → IsNumbered (sizes_of head.shape) trace
+    → IsRunning (record { input = blank_input (head_of head) trace; before = before; views = views }) (settings worker)
+    (map (λ item. seen (kept item) (view item)) lent) [] (replicate trace.actors [])
+run_begins {A = A} items lent kept view head trace worker is_worker before views same count stand views_are served numbered =
+    let of_item : A → SeenChannel = λ (item : A). seen (kept item) (view item) in
+    let keeps : map (λ channel. channel.kept) (map of_item items) ≡ map kept items =
+    map-map (λ (channel : SeenChannel). channel.kept) of_item items in
+    let tells : map (λ channel. channel.view) (map of_item items) ≡ map view items =
+    map-map (λ (channel : SeenChannel). channel.view) of_item items in
+    subst
+    (λ (list : List A). IsRunning (record { input = blank_input (head_of head) trace; before = before; views = views })
+    (settings worker)
+    (map of_item list) [] (replicate trace.actors []))
     (sym same)
-    (running_begins head is_head trace served (settings worker) (settings_of_worker head worker is_worker) channels begun
-    (are_numbered head.sizes trace.actors [] trace.calls numbered.calls)
-    (have_data head.sizes trace.actors [] trace.calls numbered.calls)
-    (subst (λ (count : ℕ). All (λ call. FitsDrive worker.shape count call.verb) trace.calls) (sym begun.as_many) fits)
-    numbered.actors_high numbered.few)
+    (running_begins head trace worker is_worker before views (map of_item items) (length-map items of_item ∙ count)
+    (subst (λ (all : List ChannelState). StandAtStarts head history_limit before views all) (sym keeps) stand)
+    (tells ∙ views_are) served
+    numbered)

@@ -1,12 +1,11 @@
 -- Which calls does a run serve, and on which channel? What a served verb that fits the drive has: a channel of the drive, and
 -- numbers that fit their fields.
-use Rattle.std.proofs.Common.{ℕ, ◌≡◌, ◌%◌, ◌<◌, ◌≤◌, ◌==◌, true, List, Some, arith}
+use Rattle.std.proofs.Common.{ℕ, ◌≡◌, ◌%◌, ◌<◌, ◌≤◌, true, List, Some, arith}
 use Rattle.std.specs.Prelude.{All, IsTrue}
-use Rattle.std.proofs.lemmas.Bool.Decides.{nat_tests}
+use Rattle.std.proofs.lemmas.List.Sums.{AllPass-from_list_all}
 use Rattle.run_laws.specs.ServedRuns.{channel_of}
 use Rattle.run_laws.specs.StoppedRuns.{IsPlainVerb}
 use Rattle.run_laws.proofs.SpelledCalls.{IsSmallVerb}
-use Rattle.run_laws.proofs.UsedRoom as Lists
 use Rattle.ssd_geo.specs.declared.shape.Shape.{Shape}
 use Rattle.ssd_geo.specs.declared.trace.TraceCall.{TraceCall}
 use Rattle.ssd_geo.specs.declared.trace.Verb.{Verb}
@@ -26,15 +25,7 @@ plain_of (Verb.Drain count) is = absurd (cc)
 pub all_plain : (calls : List TraceCall) → IsTrue (are_served calls) →
     All (λ call. IsPlainVerb call.verb) calls
 all_plain calls served k call low =
-    plain_of _ (Lists.all_at (λ (other : TraceCall). is_served_verb other.verb) calls k call served
-    low)
-
--- a page's channel is its own
-pub own_channel : (channels page : ℕ) → (page % channels == page % channels) ≡ true
-own_channel channels page = itself (page % channels)
-  where
-    itself : (n : ℕ) → (n == n) ≡ true
-    itself n = grind (arith, nat_tests)
+    plain_of _ (AllPass-from_list_all (λ (other : TraceCall). is_served_verb other.verb) calls served k call low)
 
 -- the channel of a verb that fits the drive is one of its channels
 pub channel_low : (shape : Shape) (n k : ℕ) (verb : Verb) → 0 < n → channel_of n verb ≡ Some k →

@@ -1,7 +1,7 @@
 -- What has come of the top call's source and sink, where it served an input and where it didn't? A
 -- source that tells its bytes says which input was served, or what was wrong with it; the facts are
 -- those of the bytes that it had.
-use Rattle.std.specs.Prelude.{ℕ, ◌≡◌, ◌-◌, true, List, [], Result, Ok, Err, Option, Some, None, IfSome, map, replicate, ⊤}
+use Rattle.std.specs.Prelude.{ℕ, ◌≡◌, ◌-◌, ◌*◌, ◌++◌, true, All, List, [], drop, flat_map, length, map, replicate, Result, Ok, Err, Option, Some, None, IfSome, ⊤}
 use Rattle.ssd_formats.specs.ImageHead.{Head}
 use Rattle.ssd_formats.specs.Input.{Input, read_input}
 use Rattle.ssd_geo.specs.Faults.{Rose}
@@ -14,23 +14,34 @@ use Rattle.image_file.specs.declared.stop.ReadStop.TheVariants as StopVariants
 use Rattle.trace_text.specs.Answers.{named_fault as trace_fault}
 use Rattle.trace_text.specs.declared.fault.TraceFault.{TraceFault}
 use Rattle.chan_calls.specs.Workers.{WorkerState}
-use Rattle.chan_state.specs.ChannelState.{ChannelState}
+use Rattle.drive_dies.specs.declared.mounting.MountStop.{MountStop}
+use Rattle.drive_dies.specs.declared.mounting.MountStop.TheVariants as MountVariants
+use Rattle.final_dies.specs.FinalDies.{counts_of}
+use Rattle.onfi_cmd.specs.DieState.{DieState}
 use Rattle.run_laws.specs.Headline.{Headline, IsStoppedRun, IsWholeRun}
+use Rattle.run_laws.specs.NeededRoom.{MeetsNeededRoomOver}
 use Rattle.run_laws.specs.Runs.{Run, text_of_run}
 use Rattle.run_laws.specs.ServedRuns.{hints_in}
 use Rattle.ssd_histories.specs.SerialHistory.{most_hints}
+use Rattle.ssd_histories.specs.History.{history_of}
+use Rattle.ssd_formats.specs.TraceText.{kinds_of_trace}
+use Rattle.ssd_geo.specs.declared.entry.Entry.{Entry}
+use Rattle.ssd_geo.specs.declared.head.ImageHead.{ImageHead}
+use Rattle.ssd_geo.specs.declared.policy_view.PolicyView.{PolicyView}
 use Rattle.ssd_geo.specs.declared.reply.Reply.{Reply}
-use Rattle.ssd_geo.specs.declared.stop.ServeStop.{ServeStop}
 use Rattle.ssd_geo.specs.declared.trace.Trace.{Trace as TraceOf}
 use Rattle.ssd_top.specs.Forms.{IsUnserved, is_served}
-use Rattle.ssd_top.specs.Handed.{IsRunOf}
+use Rattle.ssd_top.specs.Handed.{IsRunOf, history_limit}
+use Rattle.ssd_top.specs.HandedBack.{AllCountRuns, AreHandedBack}
 use Rattle.ssd_top.specs.Printed.{IsPrintable, text_of}
-use Rattle.ssd_top.specs.Running.{HasStopped, IsRunning}
+use Rattle.ssd_top.specs.Running.{HasStopped, HasToMakeRoom, IsRunning, Job}
+use Rattle.ssd_top.specs.Seen.{SeenChannel}
 use Rattle.ssd_top.specs.declared.printed.Printed.{Printed}
-use Rattle.ssd_top.specs.declared.serve.Served.{Served}
 use Rattle.ssd_top.specs.declared.serving.Answered.{Answered}
+use Rattle.ssd_top.specs.declared.serving.TraceStop.{TraceStop}
+use Rattle.ssd_top.specs.declared.serving.TraceStop.TheVariants as trace_stop
 use Rattle.ssd_top.specs.declared.status.Status.{Status}
-use Rattle.ssd_top.specs.declared.status.Status.TheVariants.{Done, Words, Image, Trace, ReadFault, WriteFault, HistoryLimit, OutOfMemory, NotBuilt}
+use Rattle.ssd_top.specs.declared.status.Status.TheVariants.{Done, Words, Image, Trace, ReadFault, WriteFault, HistoryLimit, OutOfMemory, DieFailed as DieFailedStatus, NotBuilt}
 
 -- an input was read to its end, where the source told its bytes from those, and is one that is
 -- served
@@ -50,79 +61,132 @@ abbrev pub Ends : Head → Run → Type 0
 Ends head run = (stop : Option (ℕ × ℕ)) × EndsAt head run stop
 
 -- a status that names a fault names the first of these bytes, and one of what isn't built has its
--- cause in them
-abbrev pub IsCausedBy : Status → List ℕ → Type 0
-IsCausedBy (Image at fault) input_bytes =
+-- cause in them, over these dies and policies that tell these views
+abbrev pub IsCausedBy : List DieState → List (Option PolicyView) → Status → List ℕ → Type 0
+IsCausedBy dies views (Image at fault) input_bytes =
     read_input input_bytes ≡ Err (image at (image_fault fault))
-IsCausedBy (Trace line fault) input_bytes =
+IsCausedBy dies views (Trace line fault) input_bytes =
     read_input input_bytes ≡ Err (trace line (trace_fault fault))
-IsCausedBy NotBuilt input_bytes = IsUnserved input_bytes
-IsCausedBy status input_bytes = ⊤
+IsCausedBy dies views NotBuilt input_bytes = IsUnserved dies views input_bytes
+IsCausedBy dies views status input_bytes = ⊤
 
-abbrev pub IsCausedByTold : Option (List ℕ) → Status → Type 0
-IsCausedByTold before status = IfSome before (IsCausedBy status)
+abbrev pub IsCausedByTold : List DieState → List (Option PolicyView) → Option (List ℕ) → Status → Type 0
+IsCausedByTold dies views before status = IfSome before (IsCausedBy dies views status)
 
--- the calls of an input, all or those before a stop, led to these channels and replies
+-- the calls of a job, all or those before a stop, led to these channels and replies
 abbrev pub LeadsTo :
-    Input → WorkerState → List ChannelState → List (List Reply) → Option (ℕ × ℕ) → Type 0
-LeadsTo input worker channels replies None =
-    IsRunning input worker channels input.calls.calls replies
-LeadsTo input worker channels replies (Some stop) =
-    HasStopped input worker channels replies stop.0 stop.1
-
--- a call was refused for want of room in a channel's history of this length, if it was
-abbrev pub IfFull : {A : Type 0} → Result A ServeStop → (ℕ → ℕ → Type 0) → Type 0
-IfFull (Ok answer) fact = ⊤
-IfFull (Err (ServeStop.HistoryFull channel length)) fact = fact channel length
-IfFull (Err ServeStop.Memory) fact = ⊤
+    Job → WorkerState → List SeenChannel → List (List Reply) → Option (ℕ × ℕ) → Type 0
+LeadsTo job worker channels replies None =
+    IsRunning job worker channels job.input.calls.calls replies
+LeadsTo job worker channels replies (Some stop) =
+    HasStopped job worker channels replies stop.0 stop.1
 
 -- whatever run began with these channels and this trace, its calls, all or those before a stop, led
 -- it to these channels and answers
 abbrev pub RunsToEnd :
-    WorkerState → List ChannelState → List ChannelState → TraceOf → Answered → Type 0
+    WorkerState → List SeenChannel → List SeenChannel → TraceOf → Answered → Type 0
 RunsToEnd worker old new asked answered =
-    (input : Input) → input.calls ≡ asked →
-    IsRunning input worker old [] (replicate asked.actors []) →
-    LeadsTo input worker new (map (λ list. list.items) answered.replies.items) answered.full
+    (job : Job) → job.input.calls ≡ asked →
+    IsRunning job worker old [] (replicate asked.actors []) →
+    LeadsTo job worker new (map (λ list. list.items) answered.replies.items) answered.full
     × (answered.dropped ≡ hints_in (map (λ list. list.items) answered.replies.items) - most_hints)
 
--- the calls of an input were served: they led to these channels, replies and number of hints
-pub record IsServed (input : Input) (served : Served) : Type 0 where
-  pub worker : WorkerState
-  pub running :
-      LeadsTo input worker served.channels.items
-      (map (λ list. list.items) served.answered.replies.items) served.answered.full
-  pub dropped :
-      served.answered.dropped
-      ≡ hints_in (map (λ list. list.items) served.answered.replies.items) - most_hints
+-- whatever run began with these channels and this trace, some write of it has to make room
+abbrev pub RunsToNoRoom :
+    WorkerState → List SeenChannel → List SeenChannel → TraceOf → TraceStop → Type 0
+RunsToNoRoom worker old new asked trace_stop.NeedsRoom =
+    (job : Job) → job.input.calls ≡ asked →
+    IsRunning job worker old [] (replicate asked.actors []) →
+    (replies : List (List Reply)) × HasToMakeRoom job worker new replies
+RunsToNoRoom worker old new asked trace_stop.Memory = ⊤
 
--- what is to be printed of an input can be, and is the text of a run of it
-pub record IsOfInput (asked : Input) (printed : Printed) : Type 0 where
+-- the job of an input over dies and policies that tell these views
+abbrev pub job_of : Input → List DieState → List (Option PolicyView) → Job
+job_of input dies views = record { input = input; before = counts_of dies; views = views }
+
+-- channels gave their dies back, each as many as it has, in front of the others of the list
+pub record GiveBack (head : Head) (channels : List SeenChannel) (dies back : List DieState) : Type 0 where
+  pub counts : All (λ channel. length channel.kept.dies ≡ head.sizes.dies) channels
+  pub back_are :
+      back ≡ flat_map (λ channel. channel.kept.dies) channels ++ drop (head.sizes.channels * head.sizes.dies) dies
+
+-- the calls of an input were served over dies and policies: they led to these histories, replies and number of hints, and the
+-- dies came back so
+pub record IsServed (input : Input) (dies : List DieState) (views : List (Option PolicyView)) (back : List DieState)
+    (histories : List (List Entry)) (answered : Answered) : Type 0 where
+  pub worker : WorkerState
+  pub channels : List SeenChannel
+  pub leads :
+      LeadsTo (job_of input dies views) worker channels
+      (map (λ list. list.items) answered.replies.items) answered.full
+  pub dropped :
+      answered.dropped
+      ≡ hints_in (map (λ list. list.items) answered.replies.items) - most_hints
+  pub histories_are : histories ≡ map (λ channel. history_of channel.kept.past) channels
+  pub give_back : GiveBack input.head channels dies back
+
+-- what is to be printed is made of a head, a trace, histories and answers
+pub record IsMadeOf (head : ImageHead) (asked : TraceOf) (histories : List (List Entry)) (answered : Answered)
+    (printed : Printed) : Type 0 where
+  pub head_is : printed.head ≡ head
+  pub histories_are : printed.histories.items ≡ histories
+  pub kinds_are : printed.kinds.items ≡ kinds_of_trace asked
+  pub replies_are : printed.replies.items ≡ map (λ list. list.items) answered.replies.items
+  pub dropped_is : printed.dropped ≡ answered.dropped
+  pub full_is : printed.full ≡ answered.full
+
+-- what is to be printed of an input can be, and is the text of a run of it over dies and policies, with the dies that came back
+pub record IsOfInput (asked : Input) (dies : List DieState) (views : List (Option PolicyView)) (back : List DieState)
+    (printed : Printed) : Type 0 where
   pub printable : IsPrintable printed
   pub run : Run
-  pub is_run : IsRunOf asked run
+  pub is_run : IsRunOf asked dies views back run
   pub headline : Headline asked.head run
   pub ends : EndsAt asked.head run printed.full
   pub is_text : text_of printed ≡ text_of_run asked.head run
 
 -- an input that is served was read to its end, and this is to be printed of it
-pub record HasServed (before after : Option (List ℕ)) (printed : Printed) : Type 0 where
+pub record HasServed (before after : Option (List ℕ)) (dies : List DieState) (views : List (Option PolicyView))
+    (back : List DieState) (printed : Printed) : Type 0 where
   pub asked : Input
   pub was_read : WasRead before after asked
-  pub of_input : IsOfInput asked printed
+  pub of_input : IsOfInput asked dies views back printed
+
+-- how the calls of an input ended, with the dies that came back
+abbrev pub ServesInput : Input → List DieState → List (Option PolicyView) → List DieState → Result Printed Status → Type 0
+ServesInput input dies views back (Ok printed) = IsOfInput input dies views back printed × AllCountRuns dies back
+ServesInput input dies views back (Err NotBuilt) =
+    MeetsNeededRoomOver input history_limit (counts_of dies) views × AllCountRuns dies back
+ServesInput input dies views back (Err OutOfMemory) = ⊤
+ServesInput input dies views back (Err status) = ⊥
+
+-- what became of the dies, by how an input was served
+abbrev pub AreGivenBack : Result Printed Status → List DieState → List DieState → Type 0
+AreGivenBack (Ok printed) olds news = AllCountRuns olds news
+AreGivenBack (Err status) olds news = AreHandedBack status olds news
 
 -- the status of an image, and of a trace, that wasn't read
 abbrev pub status_of_image : ReadStop ImageFault → Status
 status_of_image (Fault at fault) = Image at fault
 status_of_image StopVariants.ReadFault = ReadFault
-status_of_image (DieFailed die) = OutOfMemory
+status_of_image (DieFailed die) = DieFailedStatus die
 status_of_image Memory = OutOfMemory
 
 abbrev pub status_of_trace : ReadStop TraceFault → Status
 status_of_trace (Fault at fault) = Trace at fault
 status_of_trace StopVariants.ReadFault = ReadFault
-status_of_trace (DieFailed die) = OutOfMemory
+status_of_trace (DieFailed die) = DieFailedStatus die
 status_of_trace Memory = OutOfMemory
+
+-- that of dies that weren't mounted
+abbrev pub status_of_mount : MountStop → Status
+status_of_mount (MountVariants.Failed die) = DieFailedStatus die
+status_of_mount MountVariants.Memory = OutOfMemory
+
+-- and that of calls that weren't all served, where nothing is to be printed
+abbrev pub status_of_stop : TraceStop → Status
+status_of_stop trace_stop.NeedsRoom = NotBuilt
+status_of_stop trace_stop.Memory = OutOfMemory
 
 -- no die has a part in a stop
 abbrev pub IsNoDie : {F : Type 0} → ReadStop F → Type 0
@@ -138,6 +202,7 @@ IsStop before now (Image at fault) = now ≡ before
 IsStop before now (Trace line fault) = now ≡ before
 IsStop before now NotBuilt = now ≡ before
 IsStop before now OutOfMemory = now ≡ before
+IsStop before now (DieFailedStatus die) = now ≡ before
 IsStop before now ReadFault = Rose before now
 IsStop before now Done = ⊥
 IsStop before now Words = ⊥
@@ -151,6 +216,7 @@ IsSilent (Image at fault) = ⊤
 IsSilent (Trace line fault) = ⊤
 IsSilent ReadFault = ⊤
 IsSilent OutOfMemory = ⊤
+IsSilent (DieFailedStatus die) = ⊤
 IsSilent NotBuilt = ⊤
 IsSilent Done = ⊥
 IsSilent WriteFault = ⊥

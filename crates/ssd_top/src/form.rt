@@ -1,18 +1,15 @@
 // Which inputs are served, tested before their first call.
 ghost use Rattle.std.specs.Prelude.{◌≡◌};
-ghost use Rattle.ssd_formats.specs.ImageHead.{IsHead, head_of};
-ghost use Rattle.ssd_geo.specs.Shape.{sizes_of};
+ghost use Rattle.ssd_formats.specs.ImageHead.{head_of};
 ghost use Rattle.ssd_top.specs.Forms.{are_served, blank_input, is_served, is_served_drive, is_served_verb};
-ghost use Rattle.trace_text.specs.NumberedCalls.{IsNumbered};
 
-use crate::room::has_room;
 use ssd_geo::{ImageHead, Trace, Verb};
 
 // Whether a drive is served.
 fn is_served_drive(head: &ImageHead) -> bool
     ensures { result ≡ is_served_drive (head_of head.now) }
 {
-    !head.full && head.weak.len() == 0
+    !head.full
 }
 
 // Whether what a call asks is served.
@@ -35,9 +32,7 @@ fn are_served(trace: &Trace) -> bool
 
 // Whether the input of a blank drive and a trace is served.
 pub fn is_served(head: &ImageHead, trace: &Trace) -> bool
-    requires head { IsHead (head_of head.now) }
-    requires calls { IsNumbered (sizes_of head.now.shape) trace.now }
     ensures { result ≡ is_served (blank_input (head_of head.now) trace.now) }
 {
-    is_served_drive(head) && are_served(trace) && has_room(head, trace)
+    is_served_drive(head) && are_served(trace)
 }

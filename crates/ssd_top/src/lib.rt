@@ -2,22 +2,18 @@
 //! source holds and answers how that ended. It knows no operating system.
 #![tactic(auto)]
 
-mod base;
 mod content;
-mod drive;
 mod form;
 mod lists;
 mod noiseless;
 mod printed;
-mod room;
 mod serve;
 mod serving;
 mod status;
-#[cfg(test)]
-mod tests;
 mod top;
 mod words;
+mod worker;
 
 pub use noiseless::noiseless_pages_are_read_at_once;
 pub use status::{Status, status_text};
-pub use top::run;
+pub use top::{Ended, run};

@@ -1,10 +1,8 @@
 // The lists of a run as its text takes them.
 ghost use Rattle.std.specs.Prelude.{◌≡◌, IfOk, map};
-ghost use Rattle.ssd_histories.specs.History.{history_of};
 ghost use Rattle.ssd_formats.specs.TraceText.{kind_of_verb, kinds_of_actor, kinds_of_trace};
 
-use chan_state::Channel;
-use ssd_geo::{CallKind, Entry, Items, Memory, Reply, Trace, TraceCall, Verb};
+use ssd_geo::{CallKind, Items, Memory, Reply, Trace, TraceCall, Verb};
 use std::alloc::Global;
 
 // The kind of a call.
@@ -64,22 +62,6 @@ pub fn replies_of(replies: Vec<Vec<Reply>>) -> Result<Vec<Items<Reply>>, Memory>
         .collect(alloc);
     match lists {
         Ok(lists) => Ok(lists),
-        Err(_) => Err(Memory),
-    }
-}
-
-// The histories of channels.
-pub fn histories_of(channels: Vec<Channel>) -> Result<Vec<Items<Entry>>, Memory>
-    ensures { IfOk result
-        (λ histories. histories.items ≡ map (λ channel. history_of channel.past) channels.items) }
-{
-    let alloc = *channels.allocator();
-    let histories = channels
-        .into_iter()
-        .map(|channel| channel.finish())
-        .collect(alloc);
-    match histories {
-        Ok(histories) => Ok(histories),
         Err(_) => Err(Memory),
     }
 }

@@ -1,22 +1,23 @@
 // The calls of a trace, served one after the other.
-ghost use Rattle.std.specs.Prelude.{◌≡◌, ◌≤◌, ◌<◌, ◌/◌, [], IfOk, IsTrue, OnOk, Some, length, map, replicate};
-ghost use Rattle.chan_calls.specs.Calls.{reply_of};
+ghost use Rattle.std.specs.Prelude.{◌≡◌, ◌≤◌, ◌<◌, ◌/◌, [], IfErr, IfOk, IsTrue, OnOk, Some, length, map, replicate};
 ghost use Rattle.run_laws.specs.SerialRuns.{with_reply};
 ghost use Rattle.run_laws.specs.ServedRuns.{channel_of};
 ghost use Rattle.ssd_formats.specs.RunText.{is_hinted};
-ghost use Rattle.ssd_top.specs.ChannelCalls.{IfHistoryFull, MayServe, MayUse, MayWrite};
-ghost use Rattle.ssd_top.specs.ChannelCalls.{IsReadRefused, IsRefusedOn, IsWriteRefused};
-ghost use Rattle.ssd_top.specs.ChannelCalls.{IsRowRead, IsRowWritten, IsServedOn};
+ghost use Rattle.ssd_top.specs.ChannelCalls.{EndsOn, MayServe, end_of};
 ghost use Rattle.ssd_top.specs.Forms.{is_served_verb};
-ghost use Rattle.ssd_top.specs.Running.{BeginsRun, FitsDrive, GoesOn, IsNext, StopsInHistory};
-ghost use Rattle.ssd_top.specs.Serving.{IfFull, RunsToEnd};
-ghost use Rattle.ssd_top.specs.Workers.{IsContentOf, settings};
+ghost use Rattle.ssd_top.specs.Running.{BeginsRun, FitsDrive, GoesOn, IsNext, StopsSo};
+ghost use Rattle.ssd_top.specs.Seen.{seen};
+ghost use Rattle.ssd_top.specs.Serving.{RunsToEnd, RunsToNoRoom};
+ghost use Rattle.ssd_top.specs.Workers.{settings};
 
 use crate::content::content_into;
-use chan_calls::{Alone, OpenGate, ReadReply, Worker, reads_alone_are_served};
-use chan_state::{AgeAnswer, Channel, WriteAnswer};
-use ssd_geo::{Content, Items, Memory, Reply, ServeStop, StepStop, Tag, Trace, TraceCall, Verb};
+use alone_calls::{WriteEnd, age, read, trim, write};
+use chan_calls::{Alone, Worker};
+use chan_state::Channel;
+use onfi_cmd::Die;
+use ssd_geo::{Memory, Reply, StepStop, Trace, TraceCall, Verb};
 use std::alloc::Global;
+use victim::Policy;
 
 // The greatest number of hints that are kept. None is taken yet, so each further one is dropped.
 const MOST_HINTS: u32 = 256;
@@ -45,118 +46,53 @@ fn row_of(page: u32, channels: usize) -> u32
     page / channels as u32
 }
 
-// The reply of a read, with a copy of the data that the worker recovered.
-fn reply_of(alloc: Global, answer: ReadReply, worker: &Worker) -> Result<Reply, Memory>
-    ensures { IfOk result (λ reply. reply ≡ reply_of answer worker.now.data_bytes) }
+// The reply of a call that has one, as the end of the call.
+fn replied(reply: Result<Reply, StepStop>) -> Result<WriteEnd, StepStop>
+    ensures { result ≡ end_of reply }
 {
-    match answer {
-        ReadReply::Empty => Ok(Reply::Empty),
-        ReadReply::Uncorrectable => Ok(Reply::Uncorrectable),
-        ReadReply::Bytes { rung } => match Vec::from_slice(alloc, worker.bytes()) {
-            Ok(bytes) => Ok(Reply::Data {
-                rung,
-                bytes: Items::new(bytes),
-            }),
-            Err(_) => Err(Memory),
-        },
-    }
-}
-
-// Writes data to a row of a channel. They are made in `bytes`.
-fn write(
-    worker: &mut Worker,
-    channel: &mut Channel,
-    bytes: &mut [u8],
-    tag: Tag,
-    row: u32,
-    content: &Content,
-) -> Result<Reply, StepStop>
-    requires may { MayWrite (settings worker.old) channel.old tag content.now }
-    requires row { row < worker.old.shape.rows }
-    requires content { IsContentOf worker.old.shape.bytes content.now }
-    requires bytes { length bytes.old ≡ worker.old.shape.bytes }
-    ensures same { settings worker.new ≡ settings worker.old }
-    ensures bytes { length bytes.new ≡ length bytes.old }
-    ensures ok { IfOk result (λ reply.
-        IsRowWritten (settings worker.old) channel.old channel.new tag row content.now reply) }
-    ensures full { IfHistoryFull result (λ entries.
-        IsWriteRefused (settings worker.old) channel.old channel.new tag content.now entries) }
-{
-    content_into(content, bytes);
-    let mut steps = Alone::new(channel);
-    match worker.write_once(&mut steps, &OpenGate, tag, row, bytes) {
-        Ok(WriteAnswer::Written { .. }) => Ok(Reply::Ok),
-        Ok(WriteAnswer::NeedRoom) => unreachable!(),
+    match reply {
+        Ok(reply) => Ok(WriteEnd::Replied { reply }),
         Err(stop) => Err(stop),
     }
 }
 
-// Reads a row of a channel.
-fn read(
-    alloc: Global,
-    worker: &mut Worker,
-    channel: &mut Channel,
-    tag: Tag,
-    row: u32,
-) -> Result<Reply, StepStop>
-    requires may { MayUse (settings worker.old) channel.old }
-    requires row { row < worker.old.shape.rows }
-    ensures same { settings worker.new ≡ settings worker.old }
-    ensures ok { IfOk result (λ reply.
-        IsRowRead (settings worker.old) channel.old channel.new tag row reply) }
-    ensures full { IfHistoryFull result (λ entries.
-        IsReadRefused (settings worker.old) channel.old channel.new entries) }
-{
-    reads_alone_are_served();
-    let mut steps = Alone::new(channel);
-    let answer = match worker.read(&mut steps, &OpenGate, tag, row) {
-        Ok(answer) => answer,
-        Err(stop) => return Err(stop),
-    };
-    match reply_of(alloc, answer, worker) {
-        Ok(reply) => Ok(reply),
-        Err(Memory) => Err(StepStop::Memory),
-    }
-}
-
 // Serves a call on its channel, of so many. The data of a write are made in `bytes`.
-fn call_on(
+fn call_on<D: Die, P: Policy>(
     alloc: Global,
     worker: &mut Worker,
-    channel: &mut Channel,
+    channel: &mut Channel<D, P>,
     bytes: &mut [u8],
     call: &TraceCall,
     channels: usize,
-) -> Result<Reply, StepStop>
+) -> Result<WriteEnd, StepStop>
     requires low { 1 ≤ channels }
     requires high { channels ≤ 8 }
-    requires may { MayServe (settings worker.old) channel.old call.now.tag call.now.verb }
+    requires may { MayServe (settings worker.old)
+        (seen channel.old.kept (P.told channel.old.policy)) call.now.tag call.now.verb }
     requires fits { FitsDrive worker.old.shape channels call.now.verb }
     requires verb { IsTrue (is_served_verb call.now.verb) }
     requires bytes { length bytes.old ≡ worker.old.shape.bytes }
     ensures same { settings worker.new ≡ settings worker.old }
     ensures bytes { length bytes.new ≡ length bytes.old }
-    ensures ok { IfOk result (λ reply.
-        IsServedOn (settings worker.old) channels channel.old channel.new
-        call.now.tag call.now.verb reply) }
-    ensures full { IfHistoryFull result (λ entries.
-        IsRefusedOn (settings worker.old) channel.old channel.new
-        call.now.tag call.now.verb entries) }
+    ensures ends { EndsOn (settings worker.old) channels (seen channel.old.kept (P.told channel.old.policy))
+        (seen channel.new.kept (P.told channel.new.policy)) call.now.tag call.now.verb result }
 {
+    let tag = call.tag;
+    let mut steps = Alone::new(channel);
     match &call.verb {
         Verb::Write { page, content } => {
-            write(
-                worker,
-                channel,
-                bytes,
-                call.tag,
-                row_of(*page, channels),
-                content,
-            )
+            content_into(content, bytes);
+            write(worker, &mut steps, tag, row_of(*page, channels), bytes)
         }
-        Verb::Read { page } => read(alloc, worker, channel, call.tag, row_of(*page, channels)),
-        Verb::Trim { page } => match channel.trim(call.tag, row_of(*page, channels)) {
-            Ok(()) => Ok(Reply::Ok),
+        Verb::Read { page } => replied(read(
+            alloc,
+            worker,
+            &mut steps,
+            tag,
+            row_of(*page, channels),
+        )),
+        Verb::Trim { page } => match trim(&mut steps, tag, row_of(*page, channels)) {
+            Ok(()) => Ok(WriteEnd::Replied { reply: Reply::Ok }),
             Err(stop) => Err(stop),
         },
         Verb::Age {
@@ -164,41 +100,54 @@ fn call_on(
             sb,
             amount,
             ..
-        } => match channel.age(call.tag, *die, *sb, *amount) {
-            Ok(AgeAnswer::Aged) => Ok(Reply::Ok),
-            Err(stop) => Err(stop),
-        },
+        } => replied(age(&mut steps, tag, *die, *sb, *amount)),
         _ => unreachable!(),
     }
 }
 
+// Why a call has no reply.
+enum CallStop {
+    // The history of this channel has no room for the next entry, and has this length.
+    HistoryFull { channel: u8, length: u32 },
+    // It is a write that has to make room.
+    NeedsRoom,
+    // Memory was wanted and refused.
+    Memory,
+}
+
 // Serves the next call of a run. The data of a write are made in `bytes`.
-pub fn serve_call(
+fn serve_call<D: Die, P: Policy>(
     alloc: Global,
     worker: &mut Worker,
-    channels: &mut [Channel],
+    channels: &mut [Channel<D, P>],
     bytes: &mut [u8],
     call: &TraceCall,
-) -> Result<Reply, ServeStop>
-    requires next { IsNext (settings worker.old) channels.old call.now }
+) -> Result<Reply, CallStop>
+    requires next { IsNext (settings worker.old)
+        (map (λ channel. seen channel.kept (P.told channel.policy)) channels.old) call.now }
     requires verb { IsTrue (is_served_verb call.now.verb) }
     requires bytes { length bytes.old ≡ worker.old.shape.bytes }
     ensures same { settings worker.new ≡ settings worker.old }
     ensures bytes { length bytes.new ≡ length bytes.old }
     ensures ok { IfOk result (λ reply.
-        GoesOn (settings worker.old) channels.old channels.new call.now reply) }
-    ensures full { IfFull result (λ channel entries.
-        StopsInHistory (settings worker.old) channels.old channels.new call.now channel entries) }
+        GoesOn (settings worker.old)
+        (map (λ channel. seen channel.kept (P.told channel.policy)) channels.old)
+        (map (λ channel. seen channel.kept (P.told channel.policy)) channels.new) call.now reply) }
+    ensures stop { IfErr result (λ stop.
+        StopsSo (settings worker.old)
+        (map (λ channel. seen channel.kept (P.told channel.policy)) channels.old)
+        (map (λ channel. seen channel.kept (P.told channel.policy)) channels.new) call.now stop) }
 {
     let count = channels.len();
     let channel = channel_of(&call.verb, count);
     match call_on(alloc, worker, &mut channels[channel], bytes, call, count) {
-        Ok(reply) => Ok(reply),
-        Err(StepStop::HistoryFull { length }) => Err(ServeStop::HistoryFull {
+        Ok(WriteEnd::Replied { reply }) => Ok(reply),
+        Ok(WriteEnd::NeedsRoom) => Err(CallStop::NeedsRoom),
+        Err(StepStop::HistoryFull { length }) => Err(CallStop::HistoryFull {
             channel: channel as u8,
             length,
         }),
-        Err(StepStop::Memory) => Err(ServeStop::Memory),
+        Err(StepStop::Memory) => Err(CallStop::Memory),
     }
 }
 
@@ -252,35 +201,58 @@ fn zeros(alloc: Global, count: usize) -> Result<Vec<u8>, Memory>
     vec![in alloc; 0; count].map_err(|_| Memory)
 }
 
+// Why the calls of a trace weren't all served, where nothing is to be printed.
+#[derive(Drop)]
+pub enum TraceStop {
+    // A write has to make room.
+    NeedsRoom,
+    // Memory was wanted and refused.
+    Memory,
+}
+
 // Serves the calls of a trace, to the first that finds no room in its channel's history.
-pub fn serve_trace(
+pub fn serve_trace<D: Die, P: Policy>(
     alloc: Global,
     worker: &mut Worker,
-    channels: &mut [Channel],
+    channels: &mut [Channel<D, P>],
     trace: &Trace,
-) -> Result<Answered, Memory>
-    requires begins { BeginsRun (settings worker.old) channels.old trace.now }
+) -> Result<Answered, TraceStop>
+    requires begins { BeginsRun (settings worker.old)
+        (map (λ channel. seen channel.kept (P.told channel.policy)) channels.old) trace.now }
     ensures same { settings worker.new ≡ settings worker.old }
     ensures ok { IfOk result (λ answered.
-        RunsToEnd (settings worker.old) channels.old channels.new trace.now answered) }
+        RunsToEnd (settings worker.old)
+        (map (λ channel. seen channel.kept (P.told channel.policy)) channels.old)
+        (map (λ channel. seen channel.kept (P.told channel.policy)) channels.new) trace.now answered) }
+    ensures stop { IfErr result (λ stop.
+        RunsToNoRoom (settings worker.old)
+        (map (λ channel. seen channel.kept (P.told channel.policy)) channels.old)
+        (map (λ channel. seen channel.kept (P.told channel.policy)) channels.new) trace.now stop) }
 {
-    let mut replies = no_replies(alloc, trace.actors)?;
-    let mut bytes = zeros(alloc, worker.shape().bytes as usize)?;
+    let Ok(mut replies) = no_replies(alloc, trace.actors) else {
+        return Err(TraceStop::Memory);
+    };
+    let Ok(mut bytes) = zeros(alloc, worker.shape().bytes as usize) else {
+        return Err(TraceStop::Memory);
+    };
     let mut hints = 0u32;
     for call in trace.calls.as_slice() {
         let reply = match serve_call(alloc, worker, channels, &mut bytes, call) {
             Ok(reply) => reply,
-            Err(ServeStop::HistoryFull { channel, length }) => {
+            Err(CallStop::HistoryFull { channel, length }) => {
                 return Ok(Answered {
                     replies,
                     full: Some((channel, length)),
                     dropped: hints.saturating_sub(MOST_HINTS),
                 });
             }
-            Err(ServeStop::Memory) => return Err(Memory),
+            Err(CallStop::NeedsRoom) => return Err(TraceStop::NeedsRoom),
+            Err(CallStop::Memory) => return Err(TraceStop::Memory),
         };
         hints += u32::from(is_hint(&reply));
-        add_reply(&mut replies, call.tag.actor, reply)?;
+        let Ok(()) = add_reply(&mut replies, call.tag.actor, reply) else {
+            return Err(TraceStop::Memory);
+        };
     }
     Ok(Answered {
         replies,

@@ -30,6 +30,8 @@ pub enum Status {
     HistoryLimit { channel: u8, length: u32 },
     /// Memory was wanted and refused.
     OutOfMemory,
+    /// This die, counted over all channels, failed before the first call.
+    DieFailed { die: u8 },
     /// The input isn't one of those that are served today.
     NotBuilt,
 }
@@ -100,6 +102,18 @@ fn put_limit(out: &mut Vec<u8>, channel: u8, entries: u32) -> Result<(), AllocEr
     out.extend_from_slice(b"\n")
 }
 
+// Adds the line of a die that failed. After an error the list has what it had, and some of the line.
+fn put_die(out: &mut Vec<u8>, die: u8) -> Result<(), AllocError>
+    ensures ok { OnOk result (out.new.items
+        ≡ out.old.items ++ codes "die " ++ decimal die ++ codes " failed\n") }
+    ensures err { OnErr result (take (length out.old.items) out.new.items ≡ out.old.items) }
+{
+    let mut digits = Buffer::new();
+    out.extend_from_slice(b"die ")?;
+    out.extend_from_slice(digits.format(die).as_bytes())?;
+    out.extend_from_slice(b" failed\n")
+}
+
 impl Status {
     /// The exit status of the program.
     pub fn number(self) -> u8
@@ -114,6 +128,7 @@ impl Status {
             Status::WriteFault => 6,
             Status::HistoryLimit { .. } => 7,
             Status::OutOfMemory => 8,
+            Status::DieFailed { .. } => 9,
             Status::NotBuilt => 10,
         }
     }
@@ -136,6 +151,7 @@ impl Status {
             Status::WriteFault => out.extend_from_slice(b"write fault\n"),
             Status::HistoryLimit { channel, length } => put_limit(out, channel, length),
             Status::OutOfMemory => out.extend_from_slice(b"out of memory\n"),
+            Status::DieFailed { die } => put_die(out, die),
             Status::NotBuilt => out.extend_from_slice(b"not built\n"),
         }
     }

@@ -1,43 +1,72 @@
-use Rattle.std.proofs.Common.{List, map, refl, subst, arith}
-use Rattle.chan_state.specs.ChannelState.{ChannelState}
+use Rattle.std.proofs.Common.{◌∙◌, Result, Err, map, refl, sym, subst, ap, arith}
+use Rattle.final_dies.specs.FinalDies.{counts_of}
 use Rattle.ssd_formats.specs.ImageHead.{head_of}
-use Rattle.ssd_formats.specs.Input.{Input}
-use Rattle.ssd_top.proofs.BegunDrives.{none_weak}
-use Rattle.ssd_top.proofs.BegunRuns.{run_begins, written_channels}
+use Rattle.ssd_top.proofs.BegunRuns.{run_begins}
+use Rattle.ssd_top.proofs.EndedChannels.{written_whole}
+use Rattle.ssd_top.proofs.ServedEnds.{serves, stops}
 use Rattle.ssd_top.specs.Forms.{blank_input}
-use Rattle.ssd_top.specs.Serving.{LeadsTo}
+use Rattle.ssd_top.specs.Serving.{ServesInput, job_of}
 use Rattle.ssd_top.specs.Workers.{settings}
+use Rattle.ssd_top.specs.declared.printed.Printed.{Printed}
+use Rattle.ssd_top.specs.declared.status.Status.{Status}
+use Rattle.ssd_top.proofs.serve.serve.Goals.{in-Ok-answered, in-Ok-printed_of, in-Err-printed_of, in-Err}
 use Rattle.ssd_top.proofs.serve.serve.Goals as goal
 
-pub channels_of-requires-clause-none_weak : goal.channels_of-requires-clause-none_weak
-channels_of-requires-clause-none_weak c = none_weak (blank_input (head_of c.args.head.now) c.args.trace.now) c.requires.served
-
-pub serve_trace-requires : goal.serve_trace-requires
-serve_trace-requires c = record {
-  begins = record {
-    input = blank_input (head_of c.args.head.now) c.args.trace.now;
-    is_trace = refl;
-    running =
-        run_begins (head_of c.args.head.now) c.requires.head c.args.trace.now c.requires.served c.requires.calls c.in_ok-worker.worker
-        c.in_ok-worker.ensures c.in_ok-channels.channels.items c.deref_mut.result.now c.in_ok-channels.ensures c.deref_mut.ensures.value;
-    few_calls = c.requires.calls.few;
-  };
-}
+pub serve_trace-answered-requires : goal.serve_trace-answered-requires
+serve_trace-answered-requires g c =
+    let views = map (λ policy. g.P.Policy.told policy) c.args.policies.items in
+    record {
+      begins = record {
+        job = job_of (blank_input (head_of c.args.head) c.args.trace.now) (map g.D.Die.state c.args.dies.items) views;
+        is_trace = refl;
+        running =
+            run_begins c.in-Ok-begin_channels.channels.items c.deref_mut.result.now (λ channel. channel.kept)
+            (λ channel. g.P.Policy.told channel.policy) c.args.head c.args.trace.now c.in-Ok.worker
+            c.in-Ok.ensures (counts_of (map g.D.Die.state c.args.dies.items)) views c.deref_mut.ensures.value
+            (omega (arith, c.in-Ok-begin_channels.ensures.count)) c.in-Ok-begin_channels.ensures.starts
+            c.in-Ok-begin_channels.ensures.views c.requires.served c.requires.calls;
+        few_calls = c.requires.calls.few;
+      };
+    }
 
 pub returns : goal.returns
-returns c =
-    let input : Input = blank_input (head_of c.args.head.now) c.args.trace.now in
-    let leads =
-    c.in_ok-answered.ensures.ok input refl
-    (run_begins (head_of c.args.head.now) c.requires.head c.args.trace.now c.requires.served c.requires.calls c.in_ok-worker.worker
-    c.in_ok-worker.ensures c.in_ok-channels.channels.items c.deref_mut.result.now c.in_ok-channels.ensures c.deref_mut.ensures.value) in
-    record {
-      worker = settings c.in_ok-worker.worker;
-      running =
-          subst
-          (λ (channels : List ChannelState). LeadsTo input (settings c.in_ok-worker.worker) channels
-          (map (λ list. list.items) c.in_ok-answered.answered.replies.items) c.in_ok-answered.answered.full)
-          (written_channels c.in_ok-channels.channels.len c.serve_trace.new.channels c.in_ok-channels.channels.items (omega arith))
-          leads.0;
-      dropped = leads.1;
-    }
+returns g c =
+    let views = map (λ policy. g.P.Policy.told policy) c.args.policies.items in
+    let ends = λ (outcome : Result Printed Status).
+    ServesInput (blank_input (head_of c.args.head) c.args.trace.now) (map g.D.Die.state c.args.dies.items) views
+    (map g.D.Die.state c.in-Ok-end_channels.field-0.dies.items) outcome in
+    let running =
+    run_begins c.in-Ok-begin_channels.channels.items c.deref_mut.result.now (λ channel. channel.kept)
+    (λ channel. g.P.Policy.told channel.policy) c.args.head c.args.trace.now c.in-Ok.worker
+    c.in-Ok.ensures (counts_of (map g.D.Die.state c.args.dies.items)) views c.deref_mut.ensures.value
+    (omega (arith, c.in-Ok-begin_channels.ensures.count)) c.in-Ok-begin_channels.ensures.starts
+    c.in-Ok-begin_channels.ensures.views
+    c.requires.served c.requires.calls in
+    let whole =
+    written_whole c.serve_trace-answered.new.channels c.in-Ok-begin_channels.channels.items c.in-Ok-begin_channels.channels.len
+    (omega arith) in
+    elim c.match-answered-2.branch as (λ _. ends c.match-answered-2.outcome) [
+      | in-Ok-answered w ↦ elim w.match-printed_of.branch as (λ _. ends c.match-answered-2.outcome) [
+        | in-Ok-printed_of made ↦
+            subst ends (sym (w.outcome-is ∙ made.outcome-is))
+            (serves c.deref_mut.result.now c.serve_trace-answered.new.channels _ c.args.dies.items
+            c.begin_channels.new.dies.items
+            c.in-Ok-end_channels.field-0.dies.items (λ channel. channel.kept)
+            (λ channel. g.P.Policy.told channel.policy) g.D.Die.state c.args.head c.requires.head
+            c.args.trace.now views c.requires.dies.enough (settings c.in-Ok.worker) whole running
+            c.in-Ok-end_channels.ensures.counts
+            c.in-Ok-begin_channels.ensures.left c.in-Ok-end_channels.ensures.dies c.in-Ok-end_channels.field-0.histories.items
+            w.in-Ok-answered.answered made.in-Ok-printed_of.printed c.in-Ok-end_channels.ensures.histories
+            w.in-Ok-answered.ensures.ok
+            made.in-Ok-printed_of.ensures)
+        | in-Err-printed_of failed ↦ subst ends (sym (w.outcome-is ∙ failed.outcome-is)) tt
+      ]
+      | in-Err w ↦
+          subst ends (sym (w.outcome-is ∙ ap (λ (status : Status). Err status) w.stop_status.ensures))
+          (stops c.deref_mut.result.now c.serve_trace-answered.new.channels _ c.args.dies.items c.begin_channels.new.dies.items
+          c.in-Ok-end_channels.field-0.dies.items (λ channel. channel.kept)
+          (λ channel. g.P.Policy.told channel.policy) g.D.Die.state c.args.head c.requires.head
+          c.args.trace.now views c.requires.dies.enough (settings c.in-Ok.worker) whole running
+          c.in-Ok-end_channels.ensures.counts
+          c.in-Ok-begin_channels.ensures.left c.in-Ok-end_channels.ensures.dies w.in-Err.stop w.in-Err.ensures.stop)
+    ]
