@@ -1,1 +1,2 @@
 pub mod SmallChannel
+pub mod OpenLooks

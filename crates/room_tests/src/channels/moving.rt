@@ -1,71 +1,96 @@
-ghost use Rattle.std.specs.Prelude.{◌≡◌, ◌<◌};
+ghost use Rattle.std.specs.Prelude.{◌<◌};
 ghost use Rattle.room_tests.specs.SmallChannel.{IsTried};
+ghost use Rattle.room_tests.specs.OpenLooks.{IsLooked};
 
-use super::{FIRST, SECOND, begun, entry, is_written, read, slot, tag, write};
+use super::{FIRST, FaultyDie, SECOND, begun, entry, is_written, looked, read, slot, tag, write};
 use chan_state::{Channel, CondemnAnswer, LookAnswer, MoveAnswer};
-use ssd_geo::{Kind, Look, Row, StepStop};
+use ssd_geo::{Kind, Look, Row, StepStop, Tag};
 use std::test::Fail;
+use victim::{Greedy, Policy};
+
+// Moves the page of a look, and leaves the look.
+pub(super) fn moved<P: Policy>(
+    channel: &mut Channel<FaultyDie, P>,
+    by: Tag,
+    at: u32,
+    word: &[u8; 48],
+) -> MoveAnswer
+    requires { IsLooked channel.old.kept by at }
+    ensures { IsTried channel.new.kept }
+{
+    let answer = channel.move_if(by, at, word);
+    channel.leave(by, at);
+    answer
+}
 
 // Copies the page of a row: a look, a move of a word and its leave.
-fn copied(
-    channel: &mut Channel,
+pub(super) fn copied<P: Policy>(
+    channel: &mut Channel<FaultyDie, P>,
     call: u32,
     row: u32,
     word: &[u8; 48],
 ) -> Result<Option<MoveAnswer>, StepStop>
-    requires tried { IsTried channel.old }
+    requires tried { IsTried channel.old.kept }
     requires row { row < 8 }
-    ensures { IsTried channel.new }
+    ensures { IsTried channel.new.kept }
 {
     let by = tag(call);
-    let LookAnswer::Found(look) = channel.look(by, row)? else {
+    let LookAnswer::Found(look) = looked(channel, by, row)? else {
         return Ok(None);
     };
-    let answer = channel.move_if(by, look.at, word);
-    channel.leave(by, look.at);
-    Ok(Some(answer))
+    Ok(Some(moved(channel, by, look.at, word)))
 }
 
 // The same, where another call writes the row after the look.
-fn copied_late(
-    channel: &mut Channel,
+fn copied_late<P: Policy>(
+    channel: &mut Channel<FaultyDie, P>,
     call: u32,
     writer: u32,
     row: u32,
     word: &[u8; 48],
 ) -> Result<Option<MoveAnswer>, StepStop>
-    requires tried { IsTried channel.old }
+    requires tried { IsTried channel.old.kept }
     requires row { row < 8 }
-    ensures { IsTried channel.new }
+    ensures { IsTried channel.new.kept }
 {
     let by = tag(call);
-    let LookAnswer::Found(look) = channel.look(by, row)? else {
+    let LookAnswer::Found(look) = looked(channel, by, row)? else {
         return Ok(None);
     };
-    let _ = channel.write(tag(writer), row, &SECOND)?;
-    let answer = channel.move_if(by, look.at, word);
-    channel.leave(by, look.at);
-    Ok(Some(answer))
+    let _ = write(channel, writer, row, &SECOND)?;
+    Ok(Some(moved(channel, by, look.at, word)))
+}
+
+// Makes the row of a look lost, and leaves the look.
+fn condemned_for<P: Policy>(channel: &mut Channel<FaultyDie, P>, by: Tag, at: u32) -> CondemnAnswer
+    requires { IsLooked channel.old.kept by at }
+    ensures { IsTried channel.new.kept }
+{
+    let answer = channel.condemn_if(by, at);
+    channel.leave(by, at);
+    answer
 }
 
 // Condemns the row of a page: a look, the condemnation and its leave.
-fn condemned(channel: &mut Channel, call: u32, row: u32) -> Result<Option<CondemnAnswer>, StepStop>
-    requires tried { IsTried channel.old }
+fn condemned<P: Policy>(
+    channel: &mut Channel<FaultyDie, P>,
+    call: u32,
+    row: u32,
+) -> Result<Option<CondemnAnswer>, StepStop>
+    requires tried { IsTried channel.old.kept }
     requires row { row < 8 }
-    ensures { IsTried channel.new }
+    ensures { IsTried channel.new.kept }
 {
     let by = tag(call);
-    let LookAnswer::Found(look) = channel.look(by, row)? else {
+    let LookAnswer::Found(look) = looked(channel, by, row)? else {
         return Ok(None);
     };
-    let answer = channel.condemn_if(by, look.at);
-    channel.leave(by, look.at);
-    Ok(Some(answer))
+    Ok(Some(condemned_for(channel, by, look.at)))
 }
 
 #[test]
 fn a_copy_keeps_the_serial_of_its_page(rt: HostRuntime) -> Result<(), Fail> {
-    let mut channel = begun(rt.alloc(), 4096)?;
+    let mut channel = begun(rt.alloc(), Greedy::new(), 4096)?;
     assert!(rt; is_written(write(&mut channel, 7, 0, &FIRST), slot(0, 0)));
     let moved = MoveAnswer::Moved { slot: slot(0, 1) };
     assert_eq!(rt; copied(&mut channel, 8, 0, &FIRST), Ok(Some(moved)));
@@ -117,7 +142,7 @@ fn a_copy_keeps_the_serial_of_its_page(rt: HostRuntime) -> Result<(), Fail> {
 
 #[test]
 fn a_row_that_was_written_since_its_look_is_not_copied(rt: HostRuntime) -> Result<(), Fail> {
-    let mut channel = begun(rt.alloc(), 4096)?;
+    let mut channel = begun(rt.alloc(), Greedy::new(), 4096)?;
     assert!(rt; is_written(write(&mut channel, 0, 3, &FIRST), slot(0, 0)));
     let row = Row::Page {
         slot: slot(0, 1),
@@ -139,7 +164,7 @@ fn a_row_that_was_written_since_its_look_is_not_copied(rt: HostRuntime) -> Resul
 
 #[test]
 fn a_copy_without_room_stays(rt: HostRuntime) -> Result<(), Fail> {
-    let mut channel = begun(rt.alloc(), 4096)?;
+    let mut channel = begun(rt.alloc(), Greedy::new(), 4096)?;
     for call in 0..12 {
         let _ = write(&mut channel, call, call % 8, &FIRST)?;
     }
@@ -160,7 +185,7 @@ fn a_copy_without_room_stays(rt: HostRuntime) -> Result<(), Fail> {
 
 #[test]
 fn a_condemned_row_is_lost(rt: HostRuntime) -> Result<(), Fail> {
-    let mut channel = begun(rt.alloc(), 4096)?;
+    let mut channel = begun(rt.alloc(), Greedy::new(), 4096)?;
     assert!(rt; is_written(write(&mut channel, 0, 5, &FIRST), slot(0, 0)));
     let lost = Ok(Some(CondemnAnswer::Condemned));
     assert_eq!(rt; condemned(&mut channel, 1, 5), lost);
