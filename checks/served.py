@@ -4,8 +4,8 @@ plain simulation.
 
 The simulation (`checks/simulation`) is written from the formats and rules of docs/, and shares nothing with
 the program: it reads images of both versions and traces with their first faults, and serves writes, reads,
-trims and ageing on a blank drive, with the noise of its cells, the decoder of each codeword of a page, read
-retry and the limit of a history. It is itself compared with worked examples.
+trims and ageing on a blank drive, with the noise of its cells, its weak blocks, the decoder of each codeword
+of a page, read retry and the limit of a history. It is itself compared with worked examples.
 
 usage: served.py PROGRAM        (prints what differs; exits 0 where nothing does, 1 otherwise)
 """
@@ -17,7 +17,7 @@ from collections import Counter
 
 from simulation import faulty_heads, made_inputs
 from simulation.run import simulated
-from simulation.worked_rows import IMAGE, ROWS, TWO_CODEWORDS, changed, trace, wrong_parts
+from simulation.worked_rows import IMAGE, ROWS, TWO_CODEWORDS, changed, trace, weakened, wrong_parts
 
 top = pathlib.Path(__file__).resolve().parent.parent
 
@@ -58,7 +58,11 @@ NEEDED_OF_SEVERAL = [
 ]
 
 # The same, at any number of codewords.
-NEEDED_ONCE = ["hints pushed", "hints dropped", "history limit"]
+NEEDED_ONCE = [
+    "hints pushed", "hints dropped", "history limit", "a program of a page answers FAIL",
+    "a program of a parity answers FAIL", "a write is tried three times", "a page of a bad superblock is read",
+    "a write is refused as full", "a write has to make room",
+]
 
 # Whole traces, wrong or at the edge of being so.
 TRACES = [
@@ -136,7 +140,7 @@ class Check:
     def tables(self):
         for text in TRACES + ["trace 1 1\n" + lines for lines in LINES]:
             self.expect_simulated(f"the trace {text[:60]!r}", IMAGE + text.encode())
-        weak = IMAGE[:88] + b"\1\0" + bytes([0, 1, 2, 0, 5, 0, 0, 0]) + IMAGE[90:]
+        weak = weakened(IMAGE, (0, 1, 2, 5))
         self.expect_simulated("a weak block", weak + b"trace 1 1\n0 read 1\n")
         self.expect_simulated("a weak block and a wrong trace", weak + b"trace 1 1\n0 read 8\n")
         bad = changed(10, b"\5")[:90] + b"\1\0" + bytes([0, 0, 1, 0]) + IMAGE[92:]
@@ -166,6 +170,15 @@ class Check:
                     given = made_inputs.damaged(rng, given)
                 self.expect_simulated(f"{kind} input {n}", given)
 
+    def weak_drives(self):
+        rng = random.Random(20261202)
+        for n in range(150):
+            image = made_inputs.weak_image(rng, CODEWORDS[n % len(CODEWORDS)])
+            given = image + made_inputs.filling_trace(rng, image)
+            if n % 5 == 4:
+                given = made_inputs.damaged(rng, given)
+            self.expect_simulated(f"weak input {n}", given)
+
     def long_histories(self):
         """A history that fills up to its last entry, and one whose last look is one entry too late."""
         empty, lost = ["1 read 9"], ["0 read 0"]
@@ -191,6 +204,7 @@ check.example()
 check.two_codewords()
 check.tables()
 check.random_drives()
+check.weak_drives()
 check.long_histories()
 check.words_and_devices()
 check.wrong += [f"never came up: {what}" for what in NEEDED_ONCE if not check.events[what]]

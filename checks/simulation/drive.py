@@ -18,6 +18,10 @@ def soft_values(senses, count):
     return [SOFT_VALUES[5 - sum([sense >> i & 1 for sense in senses])] for i in range(count)]
 
 
+class NoRoom(Exception):
+    """A write that has to make room."""
+
+
 class HistoryLimit(Exception):
     """A step that found no room in the history of a channel."""
 
@@ -170,7 +174,10 @@ class Channel:
         self.lines, self.kinds = [], Counter()
         self.rows = {}
         self.free, self.frontier, self.used = head.good(number), None, Counter()
-        self.stripe_sum = 0
+        self.sealed, self.stripe_sum = [], 0
+        # Nothing is erased, so a block that is weak from a later erase on never answers FAIL.
+        self.weak = {(die, sb) for owner, die, sb, erases in head.weak
+                     if owner == number and erases == 0}
         self.ladders = {}
 
     def add(self, tag, kind, text):
@@ -195,28 +202,73 @@ class Channel:
         """The payload before the data."""
         return struct.pack("<QI", serial, row) + b"PGE1"
 
-    def next_slot(self):
+    def has_room(self):
+        return len(self.free) >= (1 if self.frontier is not None else 2)
+
+    def has_garbage(self):
+        live = Counter(sb for sb, _, _ in self.rows.values())
+        return any(live[sb] < self.head.slots for sb in self.sealed)
+
+    def refuse(self, tag, row):
+        """Refuses a write that finds no room. There is no victim, so the channel is worn where no superblock is
+        free, and full where one is and no sealed one has garbage."""
+        if not self.free:
+            state = "readonly"
+        elif not self.has_garbage():
+            state = "full"
+        else:
+            self.events["a write has to make room"] += 1
+            raise NoRoom
+        self.events[f"a write is refused as {state}"] += 1
+        self.add(tag, "refused", f"{row} {state}")
+        return state
+
+    def failed_die(self, sb, index, word):
+        """Programs a word into a slot, and its stripe's sum after the last slot of that. Answers the die that
+        answered FAIL, or None."""
+        place, parity = self.place_of(sb, index)
+        if (place[0], sb) in self.weak:
+            self.events["a program of a page answers FAIL"] += 1
+            return place[0]
+        self.cells.program(place, word)
+        self.stripe_sum ^= word
+        if (index + 1) % (self.head.dies - 1):
+            return None
+        if (parity, sb) in self.weak:
+            self.events["a program of a parity answers FAIL"] += 1
+            return parity
+        self.cells.program((parity, *place[1:]), self.stripe_sum)
+        self.stripe_sum = 0
+        return None
+
+    def tried(self, tag, row, word):
+        """Programs a word into the next slot, and answers it, or None where its superblock turned bad."""
         if self.frontier is None:
             self.frontier = self.free.pop(0)
         sb, index = self.frontier, self.used[self.frontier]
+        self.ladders.clear()
+        die = self.failed_die(sb, index, word)
+        if die is not None:
+            self.frontier, self.stripe_sum = None, 0
+            self.add(tag, "bad", f"write {row} {sb}.{index} {die} fail")
+            return None
         self.used[sb] += 1
         if self.used[sb] == self.head.slots:
+            self.sealed.append(sb)
             self.frontier = None
+        self.add(tag, "write", f"{row} {sb}.{index}")
         return sb, index
 
     def write(self, tag, row, serial, data):
-        self.need_room(1)
-        sb, index = self.next_slot()
         word = self.pages.word_of(int.from_bytes(self.start_of(row, serial) + data, "little"))
-        place, parity = self.place_of(sb, index)
-        self.cells.program(place, word)
-        self.stripe_sum ^= word
-        if self.is_closed(sb, index):
-            self.cells.program((parity, *place[1:]), self.stripe_sum)
-            self.stripe_sum = 0
-        self.rows[row] = (sb, index, serial)
-        self.ladders.clear()
-        self.add(tag, "write", f"{row} {sb}.{index}")
+        slot, tries = None, 0
+        while slot is None:
+            self.need_room(1)
+            if not self.has_room():
+                return self.refuse(tag, row)
+            slot, tries = self.tried(tag, row, word), tries + 1
+        self.events["a write is tried three times"] += tries == 3
+        self.rows[row] = (*slot, serial)
         return "ok"
 
     def trim(self, tag, row):
@@ -239,6 +291,8 @@ class Channel:
             return "empty"
         at, (sb, index, serial) = len(self.lines), self.rows[row]
         state = "closed" if self.is_closed(sb, index) else "open"
+        # A superblock with a used slot is sealed, the frontier or bad.
+        self.events["a page of a bad superblock is read"] += sb not in [*self.sealed, self.frontier]
         self.add(tag, "look", f"{row} page {sb}.{index} {serial} {state}")
         asks, reply = self.ladder(row)
         self.kinds["sense"] += len(asks)

@@ -119,10 +119,10 @@ class Head:
             at = r.at
             record = (r.number("B", 0, self.channels - 1), r.number("B", 0, self.dies - 1),
                       r.number("H", 0, self.superblocks - 1))
-            r.number("I", 0, 2 ** 32 - 1)
-            if self.weak and record <= self.weak[-1]:
+            erases = r.number("I", 0, 2 ** 32 - 1)
+            if self.weak and record <= self.weak[-1][:3]:
                 image_fault(at, "order")
-            self.weak.append(record)
+            self.weak.append((*record, erases))
 
     def read_bad(self, r):
         self.bad = []

@@ -12,7 +12,7 @@ class Drive:
     lifting, base_rows, message_columns, iterations = 8, 3, 17, 1
     data_bytes, rows, seed, session = 1, 1, 0, 0
     erased, programmed, spread, soft_step = -100, 100, 0, 10
-    read_levels, bad = (0,), ()
+    read_levels, bad, weak = (0,), (), ()
     # The share of zero blocks among the message columns, and the columns that have nothing else.
     zero_blocks, unchecked = 0.5, ()
 
@@ -61,7 +61,8 @@ class Drive:
             len(self.read_levels), self.iterations, self.data_bytes, self.rows,
             self.seed, self.session, self.erased, self.programmed, self.spread, self.soft_step)
         bad = b"".join(struct.pack("<BBH", channel, 0, sb) for channel, sb in self.bad)
-        lists = struct.pack("<HH", 0, len(self.bad)) + bad
+        weak = b"".join(struct.pack("<BBHI", *record) for record in self.weak)
+        lists = struct.pack("<H", len(self.weak)) + weak + struct.pack("<H", len(self.bad)) + bad
         return head + struct.pack(f"<{len(numbers)}h", *numbers) + lists + b"\0"
 
 
@@ -154,6 +155,20 @@ def wide_image(rng, words):
     return drive.image(rng)
 
 
+def weak_image(rng, words):
+    """A drive with weak blocks and without noise, that has as many rows as its superblocks allow."""
+    drive = Drive(words)
+    drive.choose_sizes(rng, [8, 16, 20], most_dies=4)
+    drive.channels = rng.randint(1, 2)
+    drive.bad = [one for one in drive.bad if one[0] < drive.channels]
+    drive.rows = (drive.superblocks - 2 - len(drive.bad)) * (drive.dies - 1) * drive.pages
+    blocks = [(channel, die, sb) for channel in range(drive.channels) for die in range(drive.dies)
+              for sb in range(drive.superblocks)]
+    weak = rng.sample(blocks, rng.randint(1, 3 * drive.channels))
+    drive.weak = [(*block, rng.choice([0, 0, 0, 1, 2 ** 32 - 1])) for block in sorted(weak)]
+    return drive.image(rng)
+
+
 def written(rng, head):
     if rng.random() < 0.3:
         return f"g{rng.randrange(2 ** 64)}"
@@ -198,6 +213,21 @@ def trace(rng, image, calls, verbs):
         else:
             words = page
         lines.append(f"{rng.randrange(actors)} {verb} {words}")
+    return text_of(rng, lines)
+
+
+def filling_trace(rng, image):
+    """A trace that writes each page of an image once, some of them again, and reads and trims a few between."""
+    head = Head(image)
+    pages = list(range(head.channels * head.rows))
+    rng.shuffle(pages)
+    again = rng.choices(pages, k=rng.choice([0, 0, 1, 4]))
+    lines = ["trace 1 2"]
+    for page in pages + again:
+        lines.append(f"0 write {page} {written(rng, head)}")
+        lines += [f"1 read {rng.choice(pages)}" for _ in range(rng.choice([0, 0, 1]))]
+        lines += [f"1 trim {rng.choice(pages)}" for _ in range(rng.random() < 0.01)]
+    lines += [f"1 read {page}" for page in rng.sample(pages, 3)]
     return text_of(rng, lines)
 
 

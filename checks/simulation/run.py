@@ -2,7 +2,7 @@
 from collections import Counter
 
 from .code import Code, Pages
-from .drive import Channel, HistoryLimit
+from .drive import Channel, HistoryLimit, NoRoom
 from .inputs import Head, Stop, read_trace
 
 HISTORY_LIMIT = 2 ** 22
@@ -11,17 +11,6 @@ HINTS = 256
 
 def not_built():
     raise Stop(10, "not built\n")
-
-
-def refuse_unbuilt(head, calls):
-    """Ends the run where the input has no fault and the program isn't built for it."""
-    if head.weak or any(call.verb in (b"refresh", b"collect", b"drain") for call in calls):
-        not_built()
-    writes = Counter(call.page % head.channels for call in calls if call.verb == b"write")
-    # A write needs a free superblock beside the one that it goes to.
-    for channel in range(head.channels):
-        if writes[channel] > (len(head.good(channel)) - 1) * head.slots:
-            not_built()
 
 
 class Run:
@@ -79,11 +68,13 @@ class Run:
     def summary(self):
         senses = sum(channel.kinds["sense"] for channel in self.channels)
         rungs = " ".join(str(self.rungs[rung]) for rung in range(len(self.head.read_levels) + 2))
-        reads = self.reads
+        reads, writes = self.reads, self.writes
+        bad = sum(channel.kinds["bad"] for channel in self.channels)
         return (
-            f"summary\nwrite {self.writes['ok']} 0 0 0\n"
+            f"summary\nwrite {writes['ok']} {writes['full']} {writes['readonly']} 0\n"
             f"read {reads['data']} {reads['empty']} {reads['uncorrectable']} 0\n"
-            f"trim {self.trims}\nmove 0 condemn 0 changed 0 stay 0\npick 0 erase 0 bad 0 fault 0\n"
+            f"trim {self.trims}\nmove 0 condemn 0 changed 0 stay 0\n"
+            f"pick 0 erase 0 bad {bad} fault 0\n"
             f"sense {senses}\nrung {rungs}\nhint {self.pushed} {self.dropped} 0\nend\n"
         )
 
@@ -95,7 +86,8 @@ def simulated(data, events):
         if head.full:
             not_built()
         actors, calls = read_trace(head, data[head.size:])
-        refuse_unbuilt(head, calls)
+        if any(call.verb in (b"refresh", b"collect", b"drain") for call in calls):
+            not_built()
     except Stop as stop:
         return stop.status, "", stop.text
     run = Run(head, actors, events)
@@ -105,6 +97,8 @@ def simulated(data, events):
     except HistoryLimit as stop:
         events["history limit"] += 1
         return 7, run.text(), f"history limit on channel {stop.channel} at {stop.length}\n"
+    except NoRoom:
+        return 10, "", "not built\n"
     finally:
         events["hints pushed"] += run.pushed
         events["hints dropped"] += run.dropped

@@ -34,6 +34,12 @@ def versions(image):
     return image, b"SSDIMG02\1" + image[8:]
 
 
+def weakened(image, *weak):
+    """An image of the same drive with these weak blocks: channel, die, superblock, and erases from."""
+    records = b"".join(struct.pack("<BBHI", *record) for record in weak)
+    return image[:-5] + struct.pack("<H", len(weak)) + records + image[-3:]
+
+
 def trace(*lines):
     return "".join(line + "\n" for line in ("trace 1 1", *lines)).encode()
 
@@ -43,14 +49,14 @@ def numbered(name, lines):
 
 
 def text(entries, replies, writes="0 0 0 0", reads="0 0 0 0", trims=0, senses=0, rungs="0 0 0 0",
-         hints="0 0 0"):
+         hints="0 0 0", bad=0):
     """The output of a run with one actor; `entries` has a list for each channel."""
     lines = []
     for channel, listed in enumerate(entries):
         lines += numbered(f"channel {channel}", listed)
     lines += numbered("actor 0", replies)
     lines += ["summary", f"write {writes}", f"read {reads}", f"trim {trims}"]
-    lines += ["move 0 condemn 0 changed 0 stay 0", "pick 0 erase 0 bad 0 fault 0"]
+    lines += ["move 0 condemn 0 changed 0 stay 0", f"pick 0 erase 0 bad {bad} fault 0"]
     lines += [f"sense {senses}", f"rung {rungs}", f"hint {hints}", "end"]
     return "".join(line + "\n" for line in lines)
 
@@ -103,11 +109,57 @@ TRACES = [
         [["0.0 write 7 0.0"]], ["ok"], writes="1 0 0 0"), ""),
 ]
 
+# The same on drives with weak blocks, which are listed behind what each row shows.
+EIGHT_WRITES = [f"0 write {page} x00" for page in range(8)]
+EIGHT_WRITTEN = [f"0.{page} write {page} {page // 4}.{page % 4}" for page in range(8)]
+WEAK_TRACES = [
+    ("a write finds a weak block and then a full channel", [(0, 0, 2, 0), (0, 0, 3, 0)],
+     trace(*EIGHT_WRITES, "0 write 0 x01", "0 read 3"), 0, text(
+        [[*EIGHT_WRITTEN, "0.8 bad write 0 2.0 0 fail", "0.8 refused 0 full",
+          "0.9 look 3 page 0.3 3 closed", *senses("0.9", 10, "2.0.1", 0), "0.9 leave 10"]],
+        ["ok"] * 8 + ["full", "data 0 0000000000000000"],
+        writes="8 1 0 0", reads="1 0 0 0", senses=1, rungs="1 0 0 0", bad=1), ""),
+    ("a write has to make room after a weak block", [(0, 0, 2, 0), (0, 0, 3, 0)],
+     trace(*EIGHT_WRITES, "0 trim 1", "0 write 0 x01"), 10, "", "not built\n"),
+    ("a parity's block is weak", [(0, 0, 0, 0)],
+     trace("0 write 0 x01", "0 write 1 x02", "0 read 0", "0 read 1"), 0, text(
+        [["0.0 write 0 0.0", "0.1 bad write 1 0.1 0 fail", "0.1 write 1 1.0",
+          "0.2 look 0 page 0.0 0 open", *senses("0.2", 3, "1.0.0", 0), "0.2 leave 3",
+          "0.3 look 1 page 1.0 1 open", *senses("0.3", 6, "0.1.0", 0), "0.3 leave 6"]],
+        ["ok", "ok", "data 0 0100000000000000", "data 0 0200000000000000"],
+        writes="2 0 0 0", reads="2 0 0 0", senses=2, rungs="2 0 0 0", bad=1), ""),
+    ("a page's block is weak", [(0, 1, 0, 0)], trace("0 write 5 x0102", "0 read 5"), 0, text(
+        [["0.0 bad write 5 0.0 1 fail", "0.0 write 5 1.0",
+          "0.1 look 5 page 1.0 0 open", *senses("0.1", 2, "0.1.0", 0), "0.1 leave 2"]],
+        ["ok", "data 0 0102000000000000"],
+        writes="1 0 0 0", reads="1 0 0 0", senses=1, rungs="1 0 0 0", bad=1), ""),
+    ("a write is tried three times", [(0, 0, 1, 0), (0, 1, 0, 0)],
+     trace("0 write 5 x03", "0 read 5"), 0, text(
+        [["0.0 bad write 5 0.0 1 fail", "0.0 bad write 5 1.0 0 fail", "0.0 write 5 2.0",
+          "0.1 look 5 page 2.0 0 open", *senses("0.1", 3, "0.2.0", 0), "0.1 leave 3"]],
+        ["ok", "data 0 0300000000000000"],
+        writes="1 0 0 0", reads="1 0 0 0", senses=1, rungs="1 0 0 0", bad=2), ""),
+    ("all superblocks but one have a weak block", [(0, 0, 1, 0), (0, 0, 2, 0), (0, 1, 0, 0)],
+     trace("0 write 5 x03", "0 read 5"), 0, text(
+        [["0.0 bad write 5 0.0 1 fail", "0.0 bad write 5 1.0 0 fail", "0.0 bad write 5 2.0 0 fail",
+          "0.0 refused 5 full", "0.1 look 5 empty"]],
+        ["full", "empty"], writes="0 1 0 0", reads="0 1 0 0", bad=3), ""),
+    ("a block is weak from its first erase on", [(0, 1, 0, 1)], trace("0 write 5 x03"), 0, text(
+        [["0.0 write 5 0.0"]], ["ok"], writes="1 0 0 0"), ""),
+]
+
+IMAGES = list(zip(["the first version", "one codeword a page", "two codewords a page"],
+                  [*versions(IMAGE), TWO_CODEWORDS]))
+
 ROWS = [
     (f"{what} ({kind})", image + lines, *due)
-    for kind, image in zip(["the first version", "one codeword a page", "two codewords a page"],
-                           [*versions(IMAGE), TWO_CODEWORDS])
+    for kind, image in IMAGES
     for what, lines, *due in TRACES
+]
+ROWS += [
+    (f"{what} ({kind})", weakened(image, *weak) + lines, *due)
+    for kind, image in IMAGES
+    for what, weak, lines, *due in WEAK_TRACES
 ]
 ROWS += [
     ("an odd page belongs to the second of two channels",
