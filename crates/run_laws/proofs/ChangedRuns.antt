@@ -39,6 +39,16 @@ run_at (first ∷ starts) (other ∷ pasts) zero start past is has =
     λ i. Some (record { start = starts_same i; past = pasts_same i })
 run_at (first ∷ starts) (other ∷ pasts) (suc k) start past is has = run_at starts pasts k start past is has
 
+-- a run has its channel's start and past
+pub run_parts : (starts : List Start) (pasts : List (List Entry)) (k : ℕ) (run : ChannelRun) →
+    slice_get (runs_with starts pasts) k ≡ Some run → (slice_get starts k ≡ Some run.start) × (slice_get pasts k ≡ Some run.past)
+run_parts [] pasts k run is = absurd (grind arith)
+run_parts (first ∷ starts) [] k run is = absurd (grind arith)
+run_parts (first ∷ starts) (past ∷ pasts) zero run is =
+    let same : ◌≡◌ {A = ChannelRun} (record { start = first; past = past }) run = grind arith in
+    (ap {B = Option Start} (λ (one : ChannelRun). Some one.start) same, ap {B = Option (List Entry)} (λ (one : ChannelRun). Some one.past) same)
+run_parts (first ∷ starts) (past ∷ pasts) (suc k) run is = run_parts starts pasts k run is
+
 pub runs_as_many : (starts : List Start) (pasts : List (List Entry)) → length pasts ≡ length starts → length (runs_with starts pasts) ≡ length starts
 runs_as_many [] pasts many = refl
 runs_as_many (start ∷ starts) [] many = absurd (omega arith)

@@ -1,11 +1,11 @@
 -- What a call made on its channel: it was served alone, its reply is that of its own steps, and it took no hint.
-use Rattle.std.proofs.Common.{ℕ, ◌≡◌, ◌%◌, Bool, true, false, List, [], ◌∷◌, ◌++◌, length, Some, refl, sym, ap, subst, ◌∙◌, arith}
-use Rattle.std.specs.Prelude.{slice_get, IsSomeAnd}
+use Rattle.std.proofs.Common.{ℕ, ◌≡◌, ◌%◌, Bool, true, false, ◌&&◌, List, [], ◌∷◌, ◌++◌, length, Some, refl, sym, ap, subst, ◌∙◌, arith}
+use Rattle.std.specs.Prelude.{slice_get, IsSomeAnd, nat_lt}
 use Rattle.ssd_histories.specs.CallSteps.{CallStep, steps_of}
 use Rattle.ssd_histories.specs.CallsInOrder.{ChannelRun, IsReplyBy, OfRun}
 use Rattle.ssd_formats.specs.RunText.{is_hinted, taken_by}
 use Rattle.ssd_histories.specs.SerialCalls.{entry_of}
-use Rattle.ssd_histories.specs.SerialHistory.{OnChannel, SerialCall, SerialState, with_hint, with_past}
+use Rattle.ssd_histories.specs.SerialHistory.{OnChannel, SerialCall, SerialState, most_hints, with_hint, with_past}
 use Rattle.ssd_histories.specs.Start.{Start}
 use Rattle.ssd_geo.specs.declared.entry.Entry.{Entry}
 use Rattle.ssd_geo.specs.declared.kind.Kind.{Kind}
@@ -13,6 +13,7 @@ use Rattle.ssd_geo.specs.declared.reply.Reply.{Reply}
 use Rattle.ssd_geo.specs.declared.tag.Tag.{Tag}
 use Rattle.ssd_geo.specs.declared.trace.Verb.{Verb}
 use Rattle.serial_laws.proofs.NumberedTags.{same_tag}
+use Rattle.run_laws.specs.ServedRuns.{hints_after, is_put}
 
 -- the run of a channel with a start and a past
 abbrev pub run_of : Start → List Entry → ChannelRun
@@ -38,6 +39,16 @@ pub without_hint : (page : ℕ) (reply : Reply) (state : SerialState) → IsUnhi
 without_hint page reply state is =
     ap {B = SerialState} (λ (b : Bool). elim b [ true ↦ with_hint page state | false ↦ state ]) (sym is.no_hint)
 
+-- the queue after a reply with which a page is pushed, where that is a hint and there is room
+abbrev pub pushed : ℕ → Reply → List ℕ → List ℕ
+pushed page reply hints = elim (is_put reply (length hints)) [ true ↦ hints ++ page ∷ [] | false ↦ hints ]
+
+pub pushes_none : (page : ℕ) (reply : Reply) (hints : List ℕ) → IsUnhinted reply → pushed page reply hints ≡ hints
+pushes_none page reply hints is =
+    ap {B = List ℕ}
+    (λ (hinted : Bool). elim (hinted && nat_lt (length hints) most_hints) [ true ↦ hints ++ page ∷ [] | false ↦ hints ])
+    is.no_hint
+
 -- what a call made on its channel
 pub record IsMade (start : Start) (contents : List (Tag × List ℕ)) (channels channel : ℕ) (tag : Tag)
     (verb : Verb) (reply : Reply) (past after : List Entry) : Type 0 where
@@ -45,6 +56,7 @@ pub record IsMade (start : Start) (contents : List (Tag × List ℕ)) (channels 
   pub is_reply : (runs : List ChannelRun) → length runs ≡ channels →
       slice_get runs channel ≡ Some (run_of start after) → IsReplyBy contents runs tag reply verb
   pub hint : ℕ
+  pub hints_are : (hints : List ℕ) → pushed hint reply hints ≡ hints_after verb reply hints
   pub serves : (before : SerialState) → slice_get before.channels channel ≡ Some (run_of start past) →
       SerialCall contents channels tag reply verb before
       (with_hint_of hint reply (with_past channel after (run_of start past) before))

@@ -17,7 +17,7 @@ use Rattle.ssd_geo.specs.declared.trace.Verb.{Verb}
 use Rattle.ssd_formats.proofs.TextLaws.{same_byte}
 use Rattle.ssd_histories.specs.ServedCalls.{after_trim}
 use Rattle.run_laws.specs.RepliedCalls.{HasAged}
-use Rattle.run_laws.proofs.MadeCalls.{IsMade, IsUnhinted, on_channel, on_run, one_step, one_step_more, run_of, without_hint}
+use Rattle.run_laws.proofs.MadeCalls.{IsMade, IsUnhinted, on_channel, on_run, one_step, one_step_more, pushes_none, run_of, without_hint}
 use Rattle.serial_laws.proofs.Lists.{same_Some}
 
 -- the reply of an ageing is no hint
@@ -46,6 +46,7 @@ module _ (start : Start) (contents : List (Tag × List ℕ)) (channels channel :
               (run_of start (entry_of tag kind ∷ past)) on many is
               (subst (λ steps. single_reply steps ≡ Some Reply.Ok) (sym are) refl);
           hint = 0;
+          hints_are = λ hints. refl;
           serves = λ before is.
               on_channel (λ run. HasForm
               (λ steps. IsTrue (is_one (is_trim_of (page / channels)) steps)) tag)
@@ -69,6 +70,7 @@ module _ (start : Start) (contents : List (Tag × List ℕ)) (channels channel :
               (sym (ap (slice_get runs) on ∙ is))
               (subst (λ steps. single_reply steps ≡ Some reply) (sym are) replies);
           hint = 0;
+          hints_are = λ hints. pushes_none 0 reply hints unhinted;
           serves = λ before is.
               subst (SerialCall contents channels tag reply (Verb.Age named die sb amount) before)
               (without_hint 0 reply (with_past channel (entry_of tag last ∷ past) (run_of start past) before) unhinted)

@@ -10,9 +10,10 @@ use Rattle.ssd_geo.specs.declared.trace.Verb.{Verb}
 use Rattle.ssd_histories.specs.ServedCalls.{HasFoundNone, HasReadPage}
 use Rattle.run_laws.specs.RepliedCalls.{HasFailedRead, IsRepliedBy}
 use Rattle.run_laws.specs.ServedRuns.{channel_of}
-use Rattle.run_laws.proofs.EndedWrites.{write_is_made}
 use Rattle.run_laws.proofs.MadeCalls.{IsMade, same_Some}
 use Rattle.run_laws.proofs.MadeChanges.{age_is_made, trim_is_made}
+use Rattle.run_laws.proofs.MadeRefreshes.{refresh_is_made}
+use Rattle.run_laws.proofs.MadeRounds.{collect_is_made, write_is_made}
 use Rattle.run_laws.proofs.ServedReads.{ReadMade, failed_read_is_made, lone_look_is_made, page_is_made, read_is_made}
 
 pub call_is_made : (start : Start) (contents : List (Tag × List ℕ)) (channels channel : ℕ) (tag : Tag)
@@ -20,8 +21,8 @@ pub call_is_made : (start : Start) (contents : List (Tag × List ℕ)) (channels
     IsRepliedBy start contents channels tag verb reply past after → IsLawful start contents after →
     IsMade start contents channels channel tag verb reply past after
 call_is_made start contents channels channel tag (Verb.Write page content) reply past after on none replied lawful =
-    write_is_made start contents channels channel tag past none page (same_Some (page % channels) channel on) content after reply
-    replied lawful
+    write_is_made start contents channels channel tag past none after reply page (same_Some (page % channels) channel on) content
+    replied
 call_is_made start contents channels channel tag (Verb.Trim page) reply past after on none replied lawful =
     subst (λ (given : Reply). IsMade start contents channels channel tag (Verb.Trim page) given past after) (sym replied.0)
     (subst (λ (new : List Entry). IsMade start contents channels channel tag (Verb.Trim page) Reply.Ok past new) (sym replied.1)
@@ -58,8 +59,8 @@ call_is_made start contents channels channel tag (Verb.Read page) reply past aft
         (failed_read_is_made start contents (page / channels) tag past none failed.slot failed.serial failed.closed failed.senses
         failed.place failed.level))
 call_is_made start contents channels channel tag (Verb.Refresh page) reply past after on none replied lawful =
-    absurd replied
+    refresh_is_made start contents channels channel tag past none after reply page (same_Some (page % channels) channel on) replied
 call_is_made start contents channels channel tag (Verb.Collect named) reply past after on none replied lawful =
-    absurd replied
+    collect_is_made start contents channels channel tag past none after reply named (same_Some named channel on) replied
 call_is_made start contents channels channel tag (Verb.Drain count) reply past after on none replied lawful =
     absurd replied

@@ -12,8 +12,9 @@ use Rattle.ssd_geo.specs.declared.tag.Tag.{Tag}
 use Rattle.ssd_geo.specs.declared.trace.Verb.{Verb}
 use Rattle.run_laws.specs.RepliedCalls.{HasFailedRead, IsRepliedBy, after_failed_sense}
 use Rattle.run_laws.specs.StoppedRuns.{HaveFoundRoom, has_first_room}
+use Rattle.run_laws.proofs.RefreshedPasts.{refreshed_finds_room}
 use Rattle.ssd_histories.specs.CallsInOrder.{is_age_of}
-use Rattle.std.proofs.lemmas.Bool.{false≢true}
+use Rattle.std.proofs.lemmas.Bool.{and_from, false≢true}
 use Rattle.std.specs.Prelude.{ℤ}
 
 module _ (start : Start) (contents : List (Tag × List ℕ)) (channels : ℕ) (tag : Tag) (reply : Reply)
@@ -22,10 +23,6 @@ module _ (start : Start) (contents : List (Tag × List ℕ)) (channels : ℕ) (t
     and_true : (b : Bool) → (b && true) ≡ b
     and_true true = refl
     and_true false = refl
-
-    and_both : (a b : Bool) → a ≡ true → b ≡ true → (a && b) ≡ true
-    and_both true b is_a is_b = is_b
-    and_both false b is_a is_b = absurd (cc)
 
     room_of_senses : (at : ℕ) (senses : List (Place × ℤ)) (past : List Entry) →
         found_room limit (after_senses tag at senses past) ≡ found_room limit past
@@ -40,20 +37,20 @@ module _ (start : Start) (contents : List (Tag × List ℕ)) (channels : ℕ) (t
         found_room limit before ≡ true → has_first_room limit before verb ≡ true →
         found_room limit after ≡ true
     serves_find_room (Verb.Write page content) served found room =
-        ap (found_room limit) served.1.after_is ∙ and_both (found_room limit before) _ found room
+        ap (found_room limit) served.1.after_is ∙ and_from (found_room limit before) _ found room
     serves_find_room (Verb.Read page) served found room =
         elim served [
-          | inl lone ↦ ap (found_room limit) lone.after_is ∙ and_both (found_room limit before) _ found room
+          | inl lone ↦ ap (found_room limit) lone.after_is ∙ and_from (found_room limit before) _ found room
           | inr read ↦ ap (found_room limit) read.after_is
               ∙ and_true (found_room limit (after_sensing tag (page / channels) read.slot read.serial read.closed read.senses before))
               ∙ room_of_senses (length before) read.senses
               (after_look tag (page / channels) read.slot read.serial read.closed before)
-              ∙ and_both (found_room limit before) _ found room
+              ∙ and_from (found_room limit before) _ found room
         ]
     serves_find_room (Verb.Trim page) served found room =
-        ap (found_room limit) served.1 ∙ and_both (found_room limit before) _ found room
+        ap (found_room limit) served.1 ∙ and_from (found_room limit before) _ found room
     serves_find_room (Verb.Age channel die sb amount) served found room =
-        ap (found_room limit) served.1 ∙ and_both (found_room limit before) _ found room
+        ap (found_room limit) served.1 ∙ and_from (found_room limit before) _ found room
     serves_find_room (Verb.Refresh page) served found room = absurd served
     serves_find_room (Verb.Collect channel) served found room = absurd served
     serves_find_room (Verb.Drain count) served found room = absurd served
@@ -67,12 +64,12 @@ module _ (start : Start) (contents : List (Tag × List ℕ)) (channels : ℕ) (t
         (after_failed_sense tag row read.slot read.serial read.closed read.senses read.place read.level before))
         ∙ and_true (found_room limit (after_sensing tag row read.slot read.serial read.closed read.senses before))
         ∙ room_of_senses (length before) read.senses (after_look tag row read.slot read.serial read.closed before)
-        ∙ and_both (found_room limit before) _ found room
+        ∙ and_from (found_room limit before) _ found room
 
     of_age : (die sb amount : ℕ) (last : Kind) → is_age_of die sb amount last ≡ true → found_room limit before ≡ true →
         has_step_room limit before ≡ true → found_room limit (entry_of tag last ∷ before) ≡ true
-    of_age die sb amount (Kind.Age named block by) is found room = and_both (found_room limit before) _ found room
-    of_age die sb amount (Kind.FaultAge named block by) is found room = and_both (found_room limit before) _ found room
+    of_age die sb amount (Kind.Age named block by) is found room = and_from (found_room limit before) _ found room
+    of_age die sb amount (Kind.FaultAge named block by) is found room = and_from (found_room limit before) _ found room
     of_age die sb amount last is found room = absurd (false≢true is)
 
     pub replies_find_room : (verb : Verb) →
@@ -91,6 +88,7 @@ module _ (start : Start) (contents : List (Tag × List ℕ)) (channels : ℕ) (t
     replies_find_room (Verb.Trim page) replied found room = serves_find_room (Verb.Trim page) replied found room
     replies_find_room (Verb.Age channel die sb amount) aged found room =
         ap (found_room limit) aged.after_is ∙ of_age die sb amount aged.last aged.is_age found room
-    replies_find_room (Verb.Refresh page) replied found room = absurd replied
-    replies_find_room (Verb.Collect channel) replied found room = absurd replied
+    replies_find_room (Verb.Refresh page) refreshed found room =
+        refreshed_finds_room start contents tag (page / channels) before after refreshed.told refreshed.was_refreshed limit found room
+    replies_find_room (Verb.Collect channel) replied found room = room found
     replies_find_room (Verb.Drain count) replied found room = absurd replied

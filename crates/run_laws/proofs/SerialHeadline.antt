@@ -1,13 +1,15 @@
 -- The statement on a run from the laws of serial calls and of recovered reads: the calls are in order in the histories, and each
 -- read gives the last write, whatever the verbs.
-use Rattle.std.proofs.Common.{ℕ, ◌≡◌, true, List, [], ◌∷◌, ◌++◌, length, sym, ap, subst, append_assoc}
+use Rattle.std.proofs.Common.{ℕ, ◌≡◌, ◌+◌, ◌^◌, ◌≤◌, ◌==◌, true, List, [], ◌∷◌, ◌++◌, length, map, refl, sym, ap, subst, append_assoc, arith, length-append}
 use Rattle.std.specs.Prelude.{All, is_some}
 use Rattle.std.proofs.lemmas.List.Elements.{All-cons, All-head, All-nil, All-tail}
-use Rattle.std.proofs.lemmas.List.Sums.{list_all-from_AllPass}
+use Rattle.std.proofs.lemmas.List.Sums.{count_by-le-length, list_all-from_AllPass}
 use Rattle.recovery_laws.proofs.AnsweredReads.{calls_give_last_writes}
 use Rattle.recovery_laws.proofs.StartPages.{starts_have_named_pages}
 use Rattle.recovery_laws.specs.ReadReplies.{HasContents, IsTracedRun}
+use Rattle.serial_laws.proofs.Lists.{all_both}
 use Rattle.serial_laws.proofs.OrderedCalls.{serial_calls_are_in_order, serial_stops_are_in_order}
+use Rattle.ssd_formats.specs.HistoryText.{are_spelled_histories}
 use Rattle.ssd_formats.specs.ImageHead.{Head}
 use Rattle.ssd_formats.specs.TraceText.{contents_of}
 use Rattle.ssd_geo.specs.declared.entry.Entry.{Entry}
@@ -16,6 +18,7 @@ use Rattle.ssd_geo.specs.declared.tag.Tag.{Tag}
 use Rattle.ssd_geo.specs.declared.trace.TraceCall.{TraceCall}
 use Rattle.ssd_geo.specs.declared.trace.Verb.{Verb}
 use Rattle.ssd_histories.specs.CallsInOrder.{AreCallsInOrder, AreNumberedAfter, AreReplies, ChannelRun, reply_to}
+use Rattle.ssd_histories.specs.History.{history_of}
 use Rattle.ssd_histories.specs.LastWrites.{IsData}
 use Rattle.ssd_histories.specs.SerialHistory.{AreServed, SerialState, none_left, serves}
 use Rattle.ssd_histories.specs.Standing.{IsPastOf}
@@ -23,6 +26,10 @@ use Rattle.ssd_histories.specs.Start.{Start}
 use Rattle.run_laws.specs.Headline.{Headline}
 use Rattle.run_laws.specs.Runs.{Run, channels_of, data_in, runs_with}
 use Rattle.run_laws.specs.SerialRuns.{ChannelsHold, HasCalls, HasData, SerialRunsHold, SerialStopsHold, state_of}
+use Rattle.run_laws.specs.Serials.{HasSmallSerials}
+use Rattle.run_laws.specs.SpelledPasts.{HasShortPast, IsSmallCall, IsSmallVerb}
+use Rattle.run_laws.proofs.ChangedRuns.{runs_as_many}
+use Rattle.run_laws.proofs.SpelledRuns.{calls_in_order_are_spelled}
 use Rattle.run_laws.proofs.TaggedData.{tags_give_data}
 
 -- the contents of a trace give each write its data
@@ -74,6 +81,34 @@ all_answered contents replies channels (serves {call = call} {calls = calls} is 
     All-cons (λ (other : TraceCall). is_some (reply_to replies other.tag) ≡ true) call calls (ap is_some is)
     (all_answered contents replies channels rest)
 
+-- calls that are numbered have numbers that fit their fields, where there are few
+small_calls : (actors : ℕ) (before calls : List TraceCall) → AreNumberedAfter actors before calls → actors ≤ 2 ^ 8 →
+    length before + length calls ≤ 2 ^ 32 → All (λ call. IsSmallVerb call.verb) calls → All IsSmallCall calls
+small_calls actors before [] numbered few many small = All-nil IsSmallCall
+small_calls actors before (call ∷ calls) numbered few many small =
+    let own = numbered.0 in
+    let actor = own.is_actor in
+    let number = own.is_number in
+    let counted = count_by-le-length (λ (older : TraceCall). older.tag.actor == call.tag.actor) before in
+    let more = length-append before (call ∷ []) in
+    All-cons IsSmallCall call calls
+    (record {
+      small_tag = record { actor = omega (arith, actor, few); call = omega (arith, number, counted, many) };
+      small_verb = All-head (λ (other : TraceCall). IsSmallVerb other.verb) call calls small;
+    })
+    (small_calls actors (before ++ call ∷ []) calls numbered.1 few (omega (arith, more, many))
+    (All-tail (λ (other : TraceCall). IsSmallVerb other.verb) call calls small))
+
+-- the histories of the channels of a run are those of its pasts
+histories_are : (starts : List Start) (pasts : List (List Entry)) → length pasts ≡ length starts →
+    map (λ (channel : ChannelRun). history_of channel.past) (runs_with starts pasts) ≡ map history_of pasts
+histories_are [] [] many = refl
+histories_are [] (past ∷ pasts) many = absurd (omega (arith, many))
+histories_are (start ∷ starts) [] many = refl
+histories_are (start ∷ starts) (past ∷ pasts) many =
+    let fewer : length pasts ≡ length starts = omega (arith, many) in
+    ap {B = List (List Entry)} (λ (more : List (List Entry)). history_of past ∷ more) (histories_are starts pasts fewer)
+
 module _ (head : Head) (run : Run) (has_calls : HasCalls head run) (hold : ChannelsHold head run) where
   abbrev contents : List (Tag × List ℕ)
   contents = data_in head run
@@ -90,6 +125,29 @@ module _ (head : Head) (run : Run) (has_calls : HasCalls head run) (hold : Chann
             (all_contents run.calls.actors head.sizes.bytes [] run.calls.calls has_calls.numbered has_calls.have_data);
       }) run.starts run.pasts has_calls.same_bytes hold.are_pasts
 
+  have_short_pasts : All (HasShortPast contents) (channels_of run)
+  have_short_pasts =
+      all_channels (λ (start : Start). HasSmallSerials start.base)
+      (λ (channel : ChannelRun). IsPastOf channel.start contents channel.past × (length channel.past ≤ channel.start.limit))
+      (HasShortPast contents)
+      (λ channel serials held. record { is_past = held.0; is_short = held.1; serials = serials }) run.starts run.pasts hold.serials
+      (all_both (λ (channel : ChannelRun). IsPastOf channel.start contents channel.past)
+      (λ (channel : ChannelRun). length channel.past ≤ channel.start.limit)
+      (λ channel. IsPastOf channel.start contents channel.past × (length channel.past ≤ channel.start.limit))
+      (λ channel is_past short. (is_past, short)) (channels_of run) hold.are_pasts hold.are_short)
+
+  are_spelled : AreCallsInOrder contents run.calls.calls run.replies (channels_of run) →
+      are_spelled_histories (map history_of run.pasts) ≡ true
+  are_spelled in_order =
+      let calls = has_calls.few_calls in
+      let few : length (channels_of run) ≤ 256 =
+      subst (λ (n : ℕ). n ≤ 256) (sym (runs_as_many run.starts run.pasts hold.as_many_pasts)) hold.few_channels in
+      subst (λ (histories : List (List Entry)). are_spelled_histories histories ≡ true)
+      (histories_are run.starts run.pasts hold.as_many_pasts)
+      (calls_in_order_are_spelled contents run.calls.calls run.replies (channels_of run) in_order have_short_pasts
+      (small_calls run.calls.actors [] run.calls.calls has_calls.numbered has_calls.few_actors (omega (arith, calls))
+      has_calls.small_verbs) few)
+
   -- calls in order with their replies
   pub headline : AreCallsInOrder contents run.calls.calls run.replies (channels_of run) →
       AreReplies contents run.calls.calls run.replies (channels_of run) → Headline head run
@@ -99,7 +157,7 @@ module _ (head : Head) (run : Run) (has_calls : HasCalls head run) (hold : Chann
     are_pasts = hold.are_pasts;
     have_room = hold.have_room;
     are_counted = hold.are_counted;
-    are_spelled = hold.are_spelled;
+    are_spelled = are_spelled in_order;
     in_order = in_order;
     are_replies = are_replies;
     last_writes = calls_give_last_writes contents run.calls.calls run.replies (channels_of run) are_traced in_order are_replies;

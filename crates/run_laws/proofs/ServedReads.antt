@@ -89,6 +89,7 @@ module _ (start : Start) (contents : List (Tag × List ℕ)) (channels channel :
         (steps_on tag run) ≡ Some reply) runs channels channel page (run_of start after) on many is
         (ap (read_reply start.base.shape.bytes (ladder_of (coding_of start.base) start contents)) made.are ∙ made.replies);
     hint = page;
+    hints_are = λ hints. refl;
     serves = λ before is. record {
       between = with_past channel after (run_of start past) before;
       reads =

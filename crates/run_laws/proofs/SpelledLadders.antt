@@ -1,9 +1,9 @@
 -- The levels at which a ladder asks for senses are ones that a text spells: read levels, and those of soft senses around them.
-use Rattle.std.proofs.Common.{ℕ, zero, suc, ◌≡◌, ◌+◌, ◌*◌, ◌≤◌, ◌&&◌, nat_lt, Bool, true, false, cond, List, [], ◌∷◌, length, ℤ, pos, negsuc, zip, drop, take, Option, Some, None, arith}
+use Rattle.std.proofs.Common.{ℕ, zero, suc, ◌≡◌, ◌+◌, ◌*◌, ◌≤◌, nat_lt, Bool, true, false, cond, List, [], ◌∷◌, length, ℤ, pos, negsuc, zip, drop, take, Option, Some, None, arith}
 use Rattle.std.specs.Prelude.{find, slice_index_or, int_le, ◌+ℤ◌, ◌-ℤ◌, ◌≤ℤ◌, ⊤}
 use Rattle.std.specs.List.{list_all}
 use Rattle.std.specs.Option.{option_map_or}
-use Rattle.std.proofs.lemmas.Bool.{and_parts}
+use Rattle.std.proofs.lemmas.Bool.{and_from, and_parts}
 use Rattle.std.proofs.lemmas.Int.{ints}
 use Rattle.ssd_formats.specs.ImageHead.{is_short}
 use Rattle.ssd_geo.specs.Bits.{bytes_sum}
@@ -26,10 +26,6 @@ le_of a b e = grind (arith, ints)
 le_is : (a b : ℤ) → a ≤ℤ b → int_le a b ≡ true
 le_is a b h = grind (arith, ints)
 
-both : (a b : Bool) → a ≡ true → b ≡ true → (a && b) ≡ true
-both true b is_a is_b = is_b
-both false b is_a is_b = absurd (cc)
-
 is_mild : (level : ℤ) → is_level level ≡ true → IsMild level
 is_mild level is =
     let parts = and_parts (int_le (negsuc 16383) level) (int_le level (pos 16383)) is in
@@ -37,7 +33,7 @@ is_mild level is =
 
 short_of : (level : ℤ) → negsuc 32767 ≤ℤ level → level ≤ℤ pos 32767 → is_short level ≡ true
 short_of level low high =
-    both (int_le (negsuc 32767) level) (int_le level (pos 32767)) (le_is (negsuc 32767) level low) (le_is level (pos 32767) high)
+    and_from (int_le (negsuc 32767) level) (int_le level (pos 32767)) (le_is (negsuc 32767) level low) (le_is level (pos 32767) high)
 
 mild_is_short : (level : ℤ) → IsMild level → is_short level ≡ true
 mild_is_short level mild =

@@ -1,12 +1,15 @@
 -- What a channel's lawful past holds, each entry's numbers in the fields of its line: what an entry names is the channel's, a
 -- serial is that of a write's call, and a look began before what names it.
-use Rattle.std.proofs.Common.{ℕ, ◌≡◌, ◌-◌, ◌*◌, ◌^◌, ◌<◌, ◌≤◌, ◌==◌, ◌&&◌, nat_le, nat_lt, Bool, true, false, not, List, [], ◌∷◌, length, ℤ, Option, Some, None, refl, sym, ap, subst, arith, lt-ltb, ltb-true}
+use Rattle.std.proofs.Common.{ℕ, suc, ◌≡◌, ◌-◌, ◌*◌, ◌^◌, ◌<◌, ◌≤◌, ◌==◌, ◌&&◌, nat_le, nat_lt, Bool, true, false, cond, not, List, [], ◌∷◌, length, length-append, ℤ, Option, Some, None, refl, sym, ap, subst, arith, lt-ltb, ltb-true}
 use Rattle.std.specs.Prelude.{IsSomeAnd, option_map, ⊤}
+use Rattle.std.proofs.lemmas.List.Elements.{All-head, All-tail}
+use Rattle.std.proofs.lemmas.List.FromFn.{length-map-range_with_len}
+use Rattle.std.proofs.lemmas.List.Sums.{count_by-le-length}
 use Rattle.std.proofs.lemmas.Bool.Decides.{nat_tests}
 use Rattle.std.specs.List.{list_all}
 use Rattle.std.proofs.Math.Nat.{mul-le-mul}
-use Rattle.std.proofs.lemmas.Bool.{and_parts}
-use Rattle.ssd_formats.specs.HistoryText.{is_closed_of_page, is_spelled_entry, is_spelled_kind, is_spelled_place, is_spelled_row, is_spelled_slot}
+use Rattle.std.proofs.lemmas.Bool.{and_from, and_parts}
+use Rattle.ssd_formats.specs.HistoryText.{is_closed_of_page, is_spelled_entry, is_spelled_kind, is_spelled_place, is_spelled_row, is_spelled_slot, is_spelled_victim}
 use Rattle.ssd_formats.specs.ImageHead.{is_short}
 use Rattle.ssd_geo.proofs.Payloads.{serials_name_their_calls}
 use Rattle.ssd_geo.specs.Coding.{coding_of}
@@ -21,26 +24,52 @@ use Rattle.ssd_geo.specs.declared.row.Row.{Row}
 use Rattle.ssd_geo.specs.declared.shape.Shape.{Shape}
 use Rattle.ssd_geo.specs.declared.slot.Slot.{Slot}
 use Rattle.ssd_geo.specs.declared.tag.Tag.{Tag}
-use Rattle.ssd_histories.specs.History.{look_made, look_of, open_look, open_looks}
-use Rattle.ssd_histories.specs.Lawful.{IsLawfulEntry, IsLawfulLeave, IsLawfulSense, is_closed_page}
+use Rattle.ssd_histories.specs.Blocks.{is_free_block}
+use Rattle.ssd_histories.specs.History.{look_made, look_of, looks_after, open_look, open_looks, with_look}
+use Rattle.ssd_histories.specs.Lawful.{IsLawfulBadCopy, IsLawfulChanged, IsLawfulCondemn, IsLawfulEntry, IsLawfulLeave, IsLawfulMove, IsLawfulSense, IsLawfulStay, is_closed_page}
+use Rattle.ssd_histories.specs.OpenLooks.{began_at, stands_in, without_look}
+use Rattle.ssd_histories.specs.PageMap.{names_superblock}
+use Rattle.ssd_histories.specs.PastBlocks.{block_of, blocks_of, slots_in}
 use Rattle.ssd_histories.specs.PastPages.{ladder_of, senses_of}
-use Rattle.ssd_histories.specs.PastRows.{row_after, row_change, row_of, serial_of}
-use Rattle.ssd_histories.specs.Ranges.{has_place, has_row, has_slot}
+use Rattle.ssd_histories.specs.PastRows.{row_after, row_change, row_of, rows_of, serial_of}
+use Rattle.ssd_histories.specs.Policies.{info_of, is_candidate}
+use Rattle.ssd_histories.specs.Ranges.{has_place, has_row, has_slot, has_superblock}
+use Rattle.ssd_histories.specs.Room.{count_of_free, count_of_garbage, live_of, live_of_victim, pins_of, pins_of_victim, table_of, victim_of}
 use Rattle.ssd_histories.specs.SerialCalls.{entry_of}
 use Rattle.ssd_histories.specs.Standing.{IsStart}
 use Rattle.ssd_histories.specs.Start.{Start}
 use Rattle.run_laws.specs.Serials.{HasSmallSerial, HasSmallSerials}
+use Rattle.run_laws.specs.SpelledPasts.{IsSmallEntry, IsSmallKind, IsSmallTag, LawfulPastsAreSpelled}
 use Rattle.run_laws.proofs.LookSenses.{found_below, open_looks_began}
 use Rattle.run_laws.proofs.SpelledLadders.{AsksShort, ladder_asks_short}
-
-both : (a b : Bool) → a ≡ true → b ≡ true → (a && b) ≡ true
-both true b is_a is_b = is_b
-both false b is_a is_b = absurd (cc)
 
 three : (a b c : Bool) → a ≡ true → b ≡ true → c ≡ true → (a && b && c) ≡ true
 three true true c is_a is_b is_c = is_c
 three true false c is_a is_b is_c = absurd (cc)
 three false b c is_a is_b is_c = absurd (cc)
+
+five : (a b c d e : Bool) → a ≡ true → b ≡ true → c ≡ true → d ≡ true → e ≡ true → (a && b && c && d && e) ≡ true
+five a b c d e is_a is_b is_c is_d is_e = rw (is_a, is_b, is_c, is_d) is_e
+
+-- an entry opens one look at most
+left_fewer : (at : ℕ) (looks : List (Tag × Look)) → length (without_look looks at) ≤ length looks
+left_fewer at [] = omega arith
+left_fewer at (pin ∷ pins) = by_test (began_at at pin) (left_fewer at pins)
+  where
+    by_test : (b : Bool) → length (without_look pins at) ≤ length pins →
+        length {A = Tag × Look} (cond b pins (pin ∷ without_look pins at)) ≤ length (pin ∷ pins)
+    by_test true few = omega arith
+    by_test false few = omega (arith, few)
+
+opened : (tag : Tag) (look : Option Look) (looks : List (Tag × Look)) (n : ℕ) → length looks ≤ n →
+    length (with_look tag look looks) ≤ suc n
+opened tag None looks n few = omega (arith, few)
+opened tag (Some look) looks n few = let more = length-append looks ((tag, look) ∷ []) in omega (arith, few, more)
+
+one_more_look : (at : ℕ) (tag : Tag) (kind : Kind) (looks : List (Tag × Look)) → length looks ≤ at →
+    length (looks_after at tag kind looks) ≤ suc at
+one_more_look at tag (Kind.Leave left) looks few = let fewer = left_fewer left looks in omega (arith, few, fewer)
+one_more_look at tag kind looks few = opened tag (look_made at kind) looks at few
 
 -- the parts of three tests
 record AreThree (a b c : Bool) : Type 0 where
@@ -61,11 +90,6 @@ low a b c e le = let less : a < b = ltb-true a b e in lt-ltb a c (omega (arith, 
 abbrev HasSmallLook : Option Look → Type 0
 HasSmallLook None = ⊤
 HasSmallLook (Some look) = look.serial < 2 ^ 64
-
--- the numbers of a tag fit their fields
-pub record IsSmallTag (tag : Tag) : Type 0 where
-  pub actor : tag.actor < 2 ^ 8
-  pub call : tag.call < 2 ^ 32
 
 tag_of : (entry : Entry) → is_spelled_entry entry ≡ true → IsSmallTag entry.tag
 tag_of entry e =
@@ -101,7 +125,7 @@ module _ (start : Start) (is_start : IsStart start) where
   slot_spelled : (slot : Slot) → has_slot shape slot ≡ true → is_spelled_slot slot ≡ true
   slot_spelled slot e =
       let parts = and_parts (nat_lt slot.sb shape.superblocks) (nat_lt slot.index (slots_of shape.pages shape.dies)) e in
-      both (nat_lt slot.sb (2 ^ 16)) (nat_lt slot.index (2 ^ 32)) (low slot.sb shape.superblocks (2 ^ 16) parts.0 few_superblocks)
+      and_from (nat_lt slot.sb (2 ^ 16)) (nat_lt slot.index (2 ^ 32)) (low slot.sb shape.superblocks (2 ^ 16) parts.0 few_superblocks)
       (low slot.index (slots_of shape.pages shape.dies) (2 ^ 32) parts.1 few_slots)
 
   place_spelled : (place : Place) → has_place shape place ≡ true → is_spelled_place place ≡ true
@@ -118,7 +142,7 @@ module _ (start : Start) (is_start : IsStart start) where
   row_spelled Row.Empty e serial = refl
   row_spelled Row.Lost e serial = refl
   row_spelled (Row.Page slot number) e serial =
-      both (is_spelled_slot slot) (nat_lt number (2 ^ 64)) (slot_spelled slot e) (lt-ltb number (2 ^ 64) serial)
+      and_from (is_spelled_slot slot) (nat_lt number (2 ^ 64)) (slot_spelled slot e) (lt-ltb number (2 ^ 64) serial)
 
   session_low : start.base.session < 2 ^ 24
   session_low = is_start.fields.session
@@ -178,6 +202,60 @@ module _ (start : Start) (is_start : IsStart start) where
       serial_step past parts.1 entry.tag entry.kind (tag_of entry parts.0) row (row_of start.base past row)
       (row_serial serials past parts.1 row)
 
+  -- the numbers of a note
+  few_free : (past : List Entry) → count_of_free start.base past ≤ shape.superblocks
+  few_free past =
+      let most = count_by-le-length is_free_block (blocks_of start.base past) in
+      let many : length (blocks_of start.base past) ≡ shape.superblocks =
+      length-map-range_with_len (block_of start.base past) 0 shape.superblocks in
+      omega (arith, most, many)
+
+  few_live : (past : List Entry) (victim : Option ℕ) →
+      elim victim as (λ o. ℕ) [ Some sb ↦ live_of start.base past sb | None ↦ 0 ] ≤ shape.rows
+  few_live past None = omega arith
+  few_live past (Some sb) =
+      let most = count_by-le-length (names_superblock sb) (rows_of start.base past) in
+      let many : length (rows_of start.base past) ≡ shape.rows =
+      length-map-range_with_len (row_of start.base past) 0 shape.rows in
+      omega (arith, most, many)
+
+  few_looks : (past : List Entry) → length (open_looks past) ≤ length past
+  few_looks [] = omega arith
+  few_looks (entry ∷ past) = one_more_look (length past) entry.tag entry.kind (open_looks past) (few_looks past)
+
+  few_pins : (past : List Entry) (victim : Option ℕ) →
+      elim victim as (λ o. ℕ) [ Some sb ↦ pins_of past sb | None ↦ 0 ] ≤ length past
+  few_pins past None = omega arith
+  few_pins past (Some sb) =
+      let most = count_by-le-length (stands_in sb) (open_looks past) in
+      let few = few_looks past in
+      omega (arith, most, few)
+
+  few_garbage : (past : List Entry) → count_of_garbage start.base past ≤ shape.superblocks
+  few_garbage past =
+      let most = count_by-le-length is_candidate (table_of start.base past) in
+      let many : length (table_of start.base past) ≡ length (blocks_of start.base past) =
+      length-map-range_with_len (info_of (slots_in start.base) (blocks_of start.base past) (rows_of start.base past) (open_looks past)) 0
+      (length (blocks_of start.base past)) in
+      let blocks : length (blocks_of start.base past) ≡ shape.superblocks =
+      length-map-range_with_len (block_of start.base past) 0 shape.superblocks in
+      omega (arith, most, many, blocks)
+
+  fewer_rows : shape.rows < 2 ^ 32
+  fewer_rows =
+      let high = shape.within.rows_high in
+      let superblocks = shape.within.superblocks_high in
+      let dies = shape.within.dies_high in
+      let some : shape.superblocks - 2 ≤ 256 = omega (arith, superblocks) in
+      let fewer : shape.dies - 1 ≤ 8 = omega (arith, dies) in
+      let first : (shape.superblocks - 2) * (shape.dies - 1) ≤ 256 * 8 = mul-le-mul some fewer in
+      let all : (shape.superblocks - 2) * (shape.dies - 1) * shape.pages ≤ 256 * 8 * 256 = mul-le-mul first shape.within.pages_high in
+      omega (arith, high, all)
+
+  victim_spelled : (victim : Option ℕ) → has_superblock shape victim ≡ true → is_spelled_victim victim ≡ true
+  victim_spelled None e = refl
+  victim_spelled (Some sb) e = low sb shape.superblocks (2 ^ 16) e few_superblocks
+
   module _ (contents : List (Tag × List ℕ)) where
     -- an entry of a call whose tag is small
     module _ (past : List Entry) (spelled : list_all is_spelled_entry past ≡ true)
@@ -187,7 +265,7 @@ module _ (start : Start) (is_start : IsStart start) where
 
       one : (kind : Kind) → is_spelled_kind kind ≡ true → list_all is_spelled_entry (entry_of tag kind ∷ past) ≡ true
       one kind e =
-          both (is_spelled_entry (entry_of tag kind)) (list_all is_spelled_entry past)
+          and_from (is_spelled_entry (entry_of tag kind)) (list_all is_spelled_entry past)
           (three (nat_lt tag.actor (2 ^ 8)) (nat_lt tag.call (2 ^ 32)) (is_spelled_kind kind) (lt-ltb tag.actor (2 ^ 8) small.actor)
           (lt-ltb tag.call (2 ^ 32) small.call) e)
           spelled
@@ -197,7 +275,7 @@ module _ (start : Start) (is_start : IsStart start) where
       write_spelled row slot lawful =
           let parts = and_parts (nat_lt row shape.rows) (has_slot shape slot) lawful.in_range in
           one (Kind.Write row slot)
-          (both (nat_lt row (2 ^ 32)) (is_spelled_slot slot) (low row shape.rows (2 ^ 32) parts.0 few_rows) (slot_spelled slot parts.1))
+          (and_from (nat_lt row (2 ^ 32)) (is_spelled_slot slot) (low row shape.rows (2 ^ 32) parts.0 few_rows) (slot_spelled slot parts.1))
 
       pub bad_write_spelled : (row : ℕ) (slot : Slot) (die : ℕ) (fault : Bool) → IsLawfulHere (Kind.BadWrite row slot die fault) →
           list_all is_spelled_entry (entry_of tag (Kind.BadWrite row slot die fault) ∷ past) ≡ true
@@ -290,3 +368,121 @@ module _ (start : Start) (is_start : IsStart start) where
       pub leave_spelled : (at : ℕ) → IsLawfulHere (Kind.Leave at) → list_all is_spelled_entry (entry_of tag (Kind.Leave at) ∷ past) ≡ true
       leave_spelled at lawful =
           one (Kind.Leave at) (at_is_low at (λ look. IsLawfulLeave (ladder_of (coding_of start.base) start contents past at) past at) lawful.meets)
+
+      -- what came of a look
+      move_spelled : (at : ℕ) (slot : Slot) → IsLawfulHere (Kind.Move at slot) →
+          list_all is_spelled_entry (entry_of tag (Kind.Move at slot) ∷ past) ≡ true
+      move_spelled at slot lawful =
+          one (Kind.Move at slot)
+          (and_from (nat_lt at (2 ^ 32)) (is_spelled_slot slot)
+          (at_is_low at (λ look. IsLawfulMove (ladder_of (coding_of start.base) start contents past at) start.base past look slot) lawful.meets)
+          (slot_spelled slot lawful.in_range))
+
+      bad_copy_spelled : (at : ℕ) (slot : Slot) (die : ℕ) (fault : Bool) → IsLawfulHere (Kind.BadCopy at slot die fault) →
+          list_all is_spelled_entry (entry_of tag (Kind.BadCopy at slot die fault) ∷ past) ≡ true
+      bad_copy_spelled at slot die fault lawful =
+          let parts = and_parts (has_slot shape slot) (nat_lt die shape.dies) lawful.in_range in
+          let dies = shape.within.dies_high in
+          one (Kind.BadCopy at slot die fault)
+          (three (nat_lt at (2 ^ 32)) (is_spelled_slot slot) (nat_lt die (2 ^ 8))
+          (at_is_low at
+          (λ look. IsLawfulBadCopy (ladder_of (coding_of start.base) start contents past at) start.base past look slot die fault)
+          lawful.meets) (slot_spelled slot parts.0) (low die shape.dies (2 ^ 8) parts.1 (omega (arith, dies))))
+
+      condemn_spelled : (at : ℕ) → IsLawfulHere (Kind.Condemn at) →
+          list_all is_spelled_entry (entry_of tag (Kind.Condemn at) ∷ past) ≡ true
+      condemn_spelled at lawful =
+          one (Kind.Condemn at)
+          (at_is_low at (λ look. IsLawfulCondemn (ladder_of (coding_of start.base) start contents past at) start.base past look)
+          lawful.meets)
+
+      stay_spelled : (at : ℕ) (worn : Bool) → IsLawfulHere (Kind.Stay at worn) →
+          list_all is_spelled_entry (entry_of tag (Kind.Stay at worn) ∷ past) ≡ true
+      stay_spelled at worn lawful =
+          one (Kind.Stay at worn)
+          (at_is_low at (λ look. IsLawfulStay (ladder_of (coding_of start.base) start contents past at) start.base past look worn)
+          lawful.meets)
+
+      -- the row of the look is as it is now
+      changed_found : (look : Option Look) (state : LadderState) (found : Row) → HasSmallSerials start.base →
+          IsSomeAnd look (λ one. IsLawfulChanged state start.base past one found) → HasSmallSerial found
+      changed_found None state found serials some = absurd some
+      changed_found (Some look) state found serials some =
+          subst HasSmallSerial (sym some.is_found) (row_serial serials past spelled look.row)
+
+      changed_spelled : HasSmallSerials start.base → (at : ℕ) (found : Row) → IsLawfulHere (Kind.Changed at found) →
+          list_all is_spelled_entry (entry_of tag (Kind.Changed at found) ∷ past) ≡ true
+      changed_spelled serials at found lawful =
+          one (Kind.Changed at found)
+          (and_from (nat_lt at (2 ^ 32)) (is_spelled_row found)
+          (at_is_low at (λ look. IsLawfulChanged (ladder_of (coding_of start.base) start contents past at) start.base past look found)
+          lawful.meets)
+          (row_spelled found lawful.in_range
+          (changed_found (open_look past tag at) (ladder_of (coding_of start.base) start contents past at) found serials lawful.meets)))
+
+      -- steps outside a look
+      pick_spelled : (sb : ℕ) → IsLawfulHere (Kind.Pick sb) → list_all is_spelled_entry (entry_of tag (Kind.Pick sb) ∷ past) ≡ true
+      pick_spelled sb lawful = one (Kind.Pick sb) (low sb shape.superblocks (2 ^ 16) lawful.in_range few_superblocks)
+
+      erase_spelled : (sb : ℕ) → IsLawfulHere (Kind.Erase sb) → list_all is_spelled_entry (entry_of tag (Kind.Erase sb) ∷ past) ≡ true
+      erase_spelled sb lawful = one (Kind.Erase sb) (low sb shape.superblocks (2 ^ 16) lawful.in_range few_superblocks)
+
+      bad_erase_spelled : (sb die : ℕ) (fault : Bool) → IsLawfulHere (Kind.BadErase sb die fault) →
+          list_all is_spelled_entry (entry_of tag (Kind.BadErase sb die fault) ∷ past) ≡ true
+      bad_erase_spelled sb die fault lawful =
+          let parts = and_parts (nat_lt sb shape.superblocks) (nat_lt die shape.dies) lawful.in_range in
+          let dies = shape.within.dies_high in
+          one (Kind.BadErase sb die fault)
+          (and_from (nat_lt sb (2 ^ 16)) (nat_lt die (2 ^ 8)) (low sb shape.superblocks (2 ^ 16) parts.0 few_superblocks)
+          (low die shape.dies (2 ^ 8) parts.1 (omega (arith, dies))))
+
+      note_spelled : (free : ℕ) (victim : Option ℕ) (live pins garbage : ℕ) → IsLawfulHere (Kind.Note free victim live pins garbage) →
+          list_all is_spelled_entry (entry_of tag (Kind.Note free victim live pins garbage) ∷ past) ≡ true
+      note_spelled free victim live pins garbage lawful =
+          let meets = lawful.meets in
+          let free_high : count_of_free start.base past ≤ shape.superblocks = few_free past in
+          let live_high : live_of_victim start.base past ≤ shape.rows = few_live past (victim_of start.base past) in
+          let rows = few_rows in
+          let superblocks = few_superblocks in
+          let rows_high : shape.rows < 2 ^ 32 = fewer_rows in
+          let pins_high : pins_of_victim start.base past ≤ length past = few_pins past (victim_of start.base past) in
+          let garbage_high : count_of_garbage start.base past ≤ shape.superblocks = few_garbage past in
+          let high = shape.within.superblocks_high in
+          one (Kind.Note free victim live pins garbage)
+          (five (nat_lt free (2 ^ 16)) (is_spelled_victim victim) (nat_lt live (2 ^ 32)) (nat_lt pins (2 ^ 32)) (nat_lt garbage (2 ^ 16))
+          (lt-ltb free (2 ^ 16) (omega (arith, meets.free_is, free_high, high)))
+          (victim_spelled victim lawful.in_range)
+          (lt-ltb live (2 ^ 32) (omega (arith, meets.live_is, live_high, rows_high)))
+          (lt-ltb pins (2 ^ 32) (omega (arith, meets.pins_is, pins_high, short)))
+          (lt-ltb garbage (2 ^ 16) (omega (arith, meets.garbage_is, garbage_high, high))))
+
+      -- any entry
+      entry_spelled : HasSmallSerials start.base → (kind : Kind) → IsSmallKind kind → IsLawfulHere kind →
+          list_all is_spelled_entry (entry_of tag kind ∷ past) ≡ true
+      entry_spelled serials (Kind.Look row found closed) fine lawful = look_spelled serials row found closed lawful
+      entry_spelled serials (Kind.Sense at place level) fine lawful = sense_spelled at place level lawful
+      entry_spelled serials (Kind.Leave at) fine lawful = leave_spelled at lawful
+      entry_spelled serials (Kind.Write row slot) fine lawful = write_spelled row slot lawful
+      entry_spelled serials (Kind.Trim row) fine lawful = trim_spelled row lawful
+      entry_spelled serials (Kind.Move at slot) fine lawful = move_spelled at slot lawful
+      entry_spelled serials (Kind.Changed at found) fine lawful = changed_spelled serials at found lawful
+      entry_spelled serials (Kind.Condemn at) fine lawful = condemn_spelled at lawful
+      entry_spelled serials (Kind.Stay at worn) fine lawful = stay_spelled at worn lawful
+      entry_spelled serials (Kind.Pick sb) fine lawful = pick_spelled sb lawful
+      entry_spelled serials (Kind.Erase sb) fine lawful = erase_spelled sb lawful
+      entry_spelled serials (Kind.BadWrite row slot die fault) fine lawful = bad_write_spelled row slot die fault lawful
+      entry_spelled serials (Kind.BadCopy at slot die fault) fine lawful = bad_copy_spelled at slot die fault lawful
+      entry_spelled serials (Kind.BadErase sb die fault) fine lawful = bad_erase_spelled sb die fault lawful
+      entry_spelled serials (Kind.Age die sb amount) fine lawful = age_spelled die sb amount fine lawful
+      entry_spelled serials (Kind.Refused row worn) fine lawful = refused_spelled row worn lawful
+      entry_spelled serials (Kind.FaultSense at place level) fine lawful = fault_sense_spelled at place level lawful
+      entry_spelled serials (Kind.FaultAge die sb amount) fine lawful = fault_age_spelled die sb amount fine lawful
+      entry_spelled serials (Kind.Note free victim live pins garbage) fine lawful = note_spelled free victim live pins garbage lawful
+
+pub lawful_pasts_are_spelled : LawfulPastsAreSpelled
+lawful_pasts_are_spelled start contents [] is_start serials lawful short small = refl
+lawful_pasts_are_spelled start contents (entry ∷ past) is_start serials lawful short small =
+    let own : IsSmallEntry entry = All-head IsSmallEntry entry past small in
+    entry_spelled start is_start contents past
+    (lawful_pasts_are_spelled start contents past is_start serials lawful.0 (omega (arith, short)) (All-tail IsSmallEntry entry past small))
+    (omega (arith, short)) entry.tag own.small_tag serials entry.kind own.small_kind lawful.1

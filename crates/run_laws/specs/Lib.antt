@@ -2,7 +2,6 @@ pub mod CountedFaults
 pub mod FirstSenses
 pub mod HandedCounts
 pub mod Headline
-pub mod NeededRoom
 pub mod PrintedRuns
 pub mod RepliedCalls
 pub mod Runs
@@ -10,4 +9,5 @@ pub mod ServedRuns
 pub mod SerialRuns
 pub mod Serials
 pub mod Starts
+pub mod SpelledPasts
 pub mod StoppedRuns

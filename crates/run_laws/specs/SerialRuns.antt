@@ -2,9 +2,8 @@
 -- their data, each channel has a past of its start, and the calls were served in their order, each with the reply of its
 -- own entries. Which verbs they have doesn't matter, nor what the channels began with. Each law is the contract of a
 -- function without a body.
-use Rattle.std.specs.Prelude.{ℕ, ◌≡◌, IsTrue, List, [], ◌∷◌, ◌++◌, ◌<◌, length, map, replicate, All, count_by, slice_index_or, slice_set, ⊤}
+use Rattle.std.specs.Prelude.{ℕ, ◌≡◌, IsTrue, List, [], ◌∷◌, ◌++◌, ◌<◌, ◌≤◌, ◌^◌, length, replicate, All, count_by, slice_index_or, slice_set, ⊤}
 use Rattle.std.specs.List.{list_all}
-use Rattle.ssd_formats.specs.HistoryText.{are_spelled_histories}
 use Rattle.ssd_formats.specs.ImageHead.{Head}
 use Rattle.ssd_formats.specs.TraceText.{content_bytes, is_of_actor}
 use Rattle.ssd_geo.specs.declared.reply.Reply.{Reply}
@@ -12,7 +11,6 @@ use Rattle.ssd_geo.specs.declared.tag.Tag.{Tag}
 use Rattle.ssd_geo.specs.declared.trace.TraceCall.{TraceCall}
 use Rattle.ssd_geo.specs.declared.trace.Verb.{Verb}
 use Rattle.ssd_histories.specs.CallsInOrder.{AreNumberedAfter, IsReplyOf, is_left}
-use Rattle.ssd_histories.specs.History.{history_of}
 use Rattle.ssd_histories.specs.HistoryRoom.{found_room}
 use Rattle.ssd_histories.specs.LastWrites.{IsData}
 use Rattle.ssd_histories.specs.Lawful.{IsLawful}
@@ -22,6 +20,8 @@ use Rattle.ssd_histories.specs.Standing.{IsPastOf}
 use Rattle.ssd_histories.specs.Start.{Start}
 use Rattle.run_laws.specs.Headline.{AreCounted, Headline, IsStoppedRun, IsWholeRun}
 use Rattle.run_laws.specs.Runs.{Run, channels_of, data_in}
+use Rattle.run_laws.specs.Serials.{HasSmallSerials}
+use Rattle.run_laws.specs.SpelledPasts.{IsSmallVerb}
 
 -- the data of a write are so many bytes; the other verbs have none
 abbrev pub HasData : ℕ → Verb → Type 0
@@ -29,21 +29,27 @@ HasData count (Verb.Write page content) = IsData count (content_bytes count cont
 HasData count verb = ⊤
 
 -- the calls of a run are numbered and have their data, each channel has pages of as many data bytes as the image, and there
--- are replies of each actor
+-- are replies of each actor; the numbers of the calls fit their fields in a text
 pub record HasCalls (head : Head) (run : Run) : Type 0 where
   pub numbered : AreNumberedAfter run.calls.actors [] run.calls.calls
   pub have_data : All (λ call. HasData head.sizes.bytes call.verb) run.calls.calls
   pub same_bytes : All (λ start. start.base.shape.bytes ≡ head.sizes.bytes) run.starts
   pub as_many_actors : length run.replies ≡ run.calls.actors
+  pub few_actors : run.calls.actors ≤ 2 ^ 8
+  pub few_calls : length run.calls.calls ≤ 2 ^ 32
+  pub small_verbs : All (λ call. IsSmallVerb call.verb) run.calls.calls
 
--- what the channels of a run have by themselves: each a past of its start, each entry of which found room, dies that counted
--- the faults of which the entries tell, and a history that a text spells
+-- what the channels of a run have by themselves, which are as few as a text tells of: each a past of its start, no longer than
+-- the limit, each entry of which found room, dies that counted the faults of which the entries tell, and serials of 64 bits
+-- with which it began
 pub record ChannelsHold (head : Head) (run : Run) : Type 0 where
   pub as_many_pasts : length run.pasts ≡ length run.starts
   pub are_pasts : All (λ channel. IsPastOf channel.start (data_in head run) channel.past) (channels_of run)
   pub have_room : All (λ channel. IsTrue (found_room channel.start.limit channel.past)) (channels_of run)
   pub are_counted : AreCounted (channels_of run) run.faults
-  pub are_spelled : IsTrue (are_spelled_histories (map history_of run.pasts))
+  pub few_channels : length run.starts ≤ 256
+  pub are_short : All (λ channel. length channel.past ≤ channel.start.limit) (channels_of run)
+  pub serials : All (λ start. HasSmallSerials start.base) run.starts
 
 -- some calls were served one after the other, and each actor has as many replies as it has calls among these
 pub record HasServed (contents : List (Tag × List ℕ)) (starts : List Start) (actors : ℕ) (done : List TraceCall)

@@ -1,16 +1,16 @@
-//! Laws of runs whose calls are served one after the other, without taking hints.
+//! Laws of runs whose calls are served one after the other, and of the text of a run.
 ghost use Rattle.run_laws.specs.CountedFaults.{UncountedFaultsAreNone};
 ghost use Rattle.run_laws.specs.PrintedRuns.{RunTextsTellPasts};
-ghost use Rattle.run_laws.specs.ServedRuns.{TagsGiveData, UndrainedRunsGoOn};
+ghost use Rattle.run_laws.specs.ServedRuns.{ServedCallsGoOn, TagsGiveData};
 ghost use Rattle.run_laws.specs.StoppedRuns.{StoppedCallsHold};
 
-/// After a call that led its channel on, one more was served.
-pub fn undrained_runs_go_on()
-    ensures { UndrainedRunsGoOn }
+/// After a call that led the channels and the queue of hints on, one more was served.
+pub fn served_calls_go_on()
+    ensures { ServedCallsGoOn }
 {}
 
-/// The statement holds of a run that stopped in a call, before its first entry or, in a write, after programs that
-/// answered FAIL.
+/// The statement holds of a run that stopped in a call: before its first entry; in a write or a collect before any entry that
+/// found no room; in a drain before the look of one of its refreshes.
 pub fn stopped_calls_hold()
     ensures { StoppedCallsHold }
 {}

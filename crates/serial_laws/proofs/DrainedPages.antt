@@ -125,7 +125,7 @@ pub record AreDrained (contents : List (Tag × List ℕ)) (tag : Tag) (channels 
   pub each : (i : ℕ) (run next : ChannelRun) → slice_get before i ≡ Some run → slice_get after i ≡ Some next →
       IsDrainedAs contents tag channels pages i run next
 
-fault_is_last : (page : ℕ) (reply : RefreshReply) (pages : List (ℕ × RefreshReply)) → is_die_fault reply ≡ false →
+pub fault_is_last : (page : ℕ) (reply : RefreshReply) (pages : List (ℕ × RefreshReply)) → is_die_fault reply ≡ false →
     is_fault_last pages ≡ true → is_fault_last ((page, reply) ∷ pages) ≡ true
 fault_is_last page reply [] none rest = refl
 fault_is_last page reply (next ∷ pages) none rest = rw (none, is_fault_last) rest

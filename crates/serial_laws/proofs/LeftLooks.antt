@@ -35,12 +35,12 @@ abbrev pub HasNoLook : List Entry → Type 0
 HasNoLook past = open_looks past ≡ []
 
 -- whether an entry neither opens a look nor ends one
-abbrev is_quiet : Kind → Bool
+abbrev pub is_quiet : Kind → Bool
 is_quiet (Kind.Look row (Row.Page slot serial) closed) = false
 is_quiet (Kind.Leave at) = false
 is_quiet _ = true
 
-quiet_keeps : (at : ℕ) (tag : Tag) (kind : Kind) (looks : List (Tag × Look)) → is_quiet kind ≡ true →
+pub quiet_keeps : (at : ℕ) (tag : Tag) (kind : Kind) (looks : List (Tag × Look)) → is_quiet kind ≡ true →
     looks_after at tag kind looks ≡ looks
 quiet_keeps at tag (Kind.Look row (Row.Page slot serial) closed) looks e = absurd (false≢true e)
 quiet_keeps at tag (Kind.Look row Row.Empty closed) looks e = refl
@@ -62,7 +62,7 @@ fault_is_quiet : (at : ℕ) (kind : Kind) → is_fault_sense_of at kind ≡ true
 fault_is_quiet at (Kind.FaultSense named place level) e = refl
 fault_is_quiet at kind e = absurd (false≢true e)
 
-end_is_quiet : (kind : Kind) → is_end_kind kind ≡ true → is_quiet kind ≡ true
+pub end_is_quiet : (kind : Kind) → is_end_kind kind ≡ true → is_quiet kind ≡ true
 end_is_quiet (Kind.Look row found closed) e = absurd (false≢true e)
 end_is_quiet (Kind.Leave at) e = absurd (false≢true e)
 end_is_quiet kind e = refl
@@ -95,12 +95,12 @@ quiet_steps tag before after (step ∷ steps) quiet are =
     ∙ quiet_keeps (length before) step.entry.tag step.entry.kind (open_looks before) parts.0
 
 -- steps that are joined, apart
-record AreStepsApart (tag : Tag) (before after : List Entry) (xs ys : List CallStep) : Type 0 where
-  between : List Entry
-  first : AreStepsFrom tag before xs between
-  second : AreStepsFrom tag between ys after
+pub record AreStepsApart (tag : Tag) (before after : List Entry) (xs ys : List CallStep) : Type 0 where
+  pub between : List Entry
+  pub first : AreStepsFrom tag before xs between
+  pub second : AreStepsFrom tag between ys after
 
-steps_apart : (tag : Tag) (before after : List Entry) (xs ys : List CallStep) → AreStepsFrom tag before (xs ++ ys) after →
+pub steps_apart : (tag : Tag) (before after : List Entry) (xs ys : List CallStep) → AreStepsFrom tag before (xs ++ ys) after →
     AreStepsApart tag before after xs ys
 steps_apart tag before after [] ys are = record { between = before; first = refl; second = are }
 steps_apart tag before after (step ∷ xs) ys are =
@@ -142,7 +142,7 @@ senses_are_quiet at (step ∷ senses) are =
     rw (sense_is_quiet at step.entry.kind parts.0) (senses_are_quiet at senses parts.1)
 
 -- the steps of a look whose end is quiet leave none open
-list_closes : (tag : Tag) (before after : List Entry) (steps : List CallStep) (look : CallStep) (ending : List CallStep)
+pub list_closes : (tag : Tag) (before after : List Entry) (steps : List CallStep) (look : CallStep) (ending : List CallStep)
     (leave : CallStep) (list : IsLookList steps look ending leave) → list_all (λ step. is_quiet step.entry.kind) ending ≡ true →
     AreStepsFrom tag before steps after → HasNoLook before → HasNoLook after
 list_closes tag before after steps look ending leave list quiet are none =
@@ -203,7 +203,7 @@ read_closes ladder tag row before after steps (inr page) are none =
     list_closes tag before after steps page.look page.ending page.leave page.is_list
     (read_end_is_quiet ladder (position_of page.look) page.ending page.leave page.ends) are none
 
-refresh_closes : (ladder : List Entry → ℕ → LadderState) (tag : Tag) (row : ℕ) (before after : List Entry)
+pub refresh_closes : (ladder : List Entry → ℕ → LadderState) (tag : Tag) (row : ℕ) (before after : List Entry)
     (steps : List CallStep) → IsRefresh ladder row steps → AreStepsFrom tag before steps after → HasNoLook before →
     HasNoLook after
 refresh_closes ladder tag row before after steps (inl lone) are none = lone_closes tag row before after steps lone are none

@@ -1,3 +1,5 @@
+pub mod CutCalls
+pub mod CutRounds
 pub mod DecidedReplies
 pub mod DrainedPages
 pub mod GrownPasts

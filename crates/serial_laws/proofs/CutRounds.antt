@@ -1,6 +1,7 @@
--- A write whose channel's history has no room for one entry more was cut, whatever was to be its next entry: where the host has
--- room it would be written, where the channel is worn or full refused, and else it would pick a superblock, or take the victim,
--- and copy a page out of it or erase it.
+-- A write or a collect whose channel's history has no room for one entry more was cut, whatever was to be its next entry. A
+-- write would be written where the host has room, and refused where the channel is worn or full; else it would pick a
+-- superblock, or take the victim, and copy a page out of it or erase it. So would a collect, or it would note that there is
+-- nothing to do.
 use Rattle.std.proofs.Common.{ℕ, zero, suc, ◌≡◌, ◌+◌, ◌*◌, ◌<◌, ◌==◌, ◌&&◌, ◌||◌, nat_le, nat_lt, Bool, true, false, cond, not, List, [], ◌∷◌, ◌++◌, length, map, pos, Option, Some, None, refl, sym, ap, subst, ◌∙◌, append_assoc, arith, lt-ltb}
 use Rattle.std.specs.Prelude.{count_by, filter_map, fold, is_none, is_some, min, option_map}
 use Rattle.std.specs.List.{position_or_len, range_with_len}
@@ -25,7 +26,7 @@ use Rattle.ssd_histories.specs.PastBlocks.{block_of, blocks_of, is_bad_superbloc
 use Rattle.ssd_histories.specs.PastRows.{rows_of}
 use Rattle.ssd_histories.specs.Room.{count_of_free, count_of_garbage, has_host_room, is_full, is_worn, live_of, live_of_victim, victim_of}
 use Rattle.ssd_histories.specs.Rounds.{first_live_of_victim, is_that_slot, needs_room}
-use Rattle.ssd_histories.specs.SerialCalls.{SerialCopies, SerialWrite, copy_faults, entry_of, erase_faults, faulted, is_refused, may_pick, picks, round_faults, takes, writes}
+use Rattle.ssd_histories.specs.SerialCalls.{SerialCollect, SerialCopies, SerialWrite, copy_faults, decides, entry_of, erase_faults, faulted, finds_none, is_idle, is_refused, may_pick, picks, round_faults, takes, writes}
 use Rattle.ssd_histories.specs.States.{is_free, is_victim}
 use Rattle.serial_laws.proofs.Lists.{same_number}
 
@@ -70,11 +71,11 @@ has_first rows sb some = by_indices (filter_map (index_in sb) rows) refl (indice
         record { slot = slot_at sb (fold min n ns); is_first = ap (λ (found : List ℕ). option_map (slot_at sb) (least_of found)) is }
 
 -- a past with a victim: an erase of it, or a copy of a page of it, may fail next
-record MayFault (ladder : List Entry → ℕ → LadderState) (base : ChannelBase) (tag : Tag) (past : List Entry) : Type 0 where
-  next : Kind
-  later : List Entry
-  asks_look : (limit : ℕ) → has_room_for limit past next ≡ has_look_room limit past
-  copies : SerialCopies ladder base tag past (later ++ entry_of tag next ∷ past) faulted
+pub record MayFault (ladder : List Entry → ℕ → LadderState) (base : ChannelBase) (tag : Tag) (past : List Entry) : Type 0 where
+  pub next : Kind
+  pub later : List Entry
+  pub asks_look : (limit : ℕ) → has_room_for limit past next ≡ has_look_room limit past
+  pub copies : SerialCopies ladder base tag past (later ++ entry_of tag next ∷ past) faulted
 
 module _ (ladder : List Entry → ℕ → LadderState) (base : ChannelBase) (tag : Tag) (past : List Entry) where
   module _ (sb : ℕ) (is : victim_of base past ≡ Some sb) where
@@ -130,7 +131,7 @@ module _ (ladder : List Entry → ℕ → LadderState) (base : ChannelBase) (tag
       copies = erase_faults is none;
     }
 
-    may_fault : MayFault ladder base tag past
+    pub may_fault : MayFault ladder base tag past
     may_fault = by_live (live_of_victim base past) refl
       where
         by_live : (n : ℕ) → live_of_victim base past ≡ n → MayFault ladder base tag past
@@ -221,7 +222,7 @@ may_pick_by None (suc free) zero false more is none worn full = absurd (grind (a
 may_pick_by None (suc free) (suc garbage) false more is none worn full = (omega arith, grind (arith, nat_tests))
 
 -- no room for a step leaves none for a look
-no_look_room : (limit : ℕ) (past : List Entry) → has_step_room limit past ≡ false → has_look_room limit past ≡ false
+pub no_look_room : (limit : ℕ) (past : List Entry) → has_step_room limit past ≡ false → has_look_room limit past ≡ false
 no_look_room limit past none =
     more_is_none (length past + 256 * length (open_looks past) + 1) (length past + 256 * (length (open_looks past) + 1)) limit
     (omega arith) none
@@ -307,3 +308,64 @@ module _ (ladder : List Entry → ℕ → LadderState) (base : ChannelBase) (tag
           makes_room_first
           (none_of_three (has_host_room base past) (is_worn base past) (is_full base past) is is_worn_so is_full_so) is is_worn_so
           is_full_so
+
+-- what a collect would do next
+pub record IsCutCollect (ladder : List Entry → ℕ → LadderState) (base : ChannelBase) (tag : Tag) (limit : ℕ) (past : List Entry)
+    : Type 0 where
+  pub next : Kind
+  pub later : List Entry
+  pub no_room : has_room_for limit past next ≡ false
+  pub whole : SerialCollect ladder base tag past (later ++ entry_of tag next ∷ past)
+
+module _ (ladder : List Entry → ℕ → LadderState) (base : ChannelBase) (tag : Tag) (limit : ℕ) (past : List Entry)
+    (full : has_step_room limit past ≡ false) where
+  takes_it : (sb : ℕ) → victim_of base past ≡ Some sb → IsCutCollect ladder base tag limit past
+  takes_it sb is =
+      let fault : MayFault ladder base tag past = may_fault ladder base tag past sb is in
+      let none : may_pick base past ≡ false = rw (is, may_pick) refl in
+      record {
+        next = fault.next;
+        later = fault.later;
+        no_room = fault.asks_look limit ∙ no_look_room limit past full;
+        whole = decides (takes none fault.copies) refl;
+      }
+
+  picks_first : may_pick base past ≡ true → IsCutCollect ladder base tag limit past
+  picks_first may =
+      let some : 0 < count_of_free base past =
+      free_by (is_none (victim_of base past)) (count_of_free base past) (nat_lt 0 (count_of_garbage base past)) may in
+      let pick : HasPick base tag past = has_pick base tag past some in
+      let picked : Entry = entry_of tag (Kind.Pick pick.sb) in
+      let fault : MayFault ladder base tag (picked ∷ past) =
+      may_fault ladder base tag (picked ∷ past) pick.victim.sb pick.victim.is_there in
+      record {
+        next = Kind.Pick pick.sb;
+        later = fault.later ++ entry_of tag fault.next ∷ [];
+        no_room = full;
+        whole =
+            subst (λ (after : List Entry). SerialCollect ladder base tag past after)
+            (sym (append_assoc fault.later (entry_of tag fault.next ∷ []) (picked ∷ past)))
+            (decides (picks may fault.copies) refl);
+      }
+    where
+      free_by : (none : Bool) (free : ℕ) (some : Bool) → (none && nat_le 1 free && some) ≡ true → 0 < free
+      free_by true zero some e = absurd (false≢true e)
+      free_by true (suc free) some e = omega arith
+      free_by false free some e = absurd (false≢true e)
+
+  notes_idle : victim_of base past ≡ None → may_pick base past ≡ false → IsCutCollect ladder base tag limit past
+  notes_idle none may_not = record {
+    next = Kind.Note 0 None 0 0 0;
+    later = [];
+    no_room = full;
+    whole = is_idle (takes may_not (finds_none none)) refl;
+  }
+
+  pub collect_is_cut : IsCutCollect ladder base tag limit past
+  collect_is_cut = by_victim (victim_of base past) refl (may_pick base past) refl
+    where
+      by_victim : (victim : Option ℕ) → victim_of base past ≡ victim → (may : Bool) → may_pick base past ≡ may →
+          IsCutCollect ladder base tag limit past
+      by_victim (Some sb) is may is_may = takes_it sb is
+      by_victim None is true is_may = picks_first is_may
+      by_victim None is false is_may = notes_idle is is_may
