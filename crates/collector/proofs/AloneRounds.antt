@@ -86,11 +86,11 @@ module _ (start : Start) (contents : List (Tag × List ℕ)) (caller : CallerVie
 
   module _ (sb : ℕ) where
     -- a copy of the victim's first live page
-    record IsCopied (before after : List Entry) (reply : CopyReply) : Type 0 where
-      made : IsSerialCopy ladder start.base tag before after (is_round_end reply) (is_die_fault reply)
-      leaves : IsLawful start contents after → Stands sb before → Stands sb after
+    pub record IsCopied (before after : List Entry) (reply : CopyReply) : Type 0 where
+      pub made : IsSerialCopy ladder start.base tag before after (is_round_end reply) (is_die_fault reply)
+      pub leaves : IsLawful start contents after → Stands sb before → Stands sb after
 
-    copied : (before after : List Entry) (reply : CopyReply) → CopiesLive start contents caller tag sb before after reply →
+    pub copied : (before after : List Entry) (reply : CopyReply) → CopiesLive start contents caller tag sb before after reply →
         IsCopied before after reply
     copied before after reply page =
         let now : List Entry = page.finds.0 in
@@ -144,7 +144,7 @@ module _ (start : Start) (contents : List (Tag × List ℕ)) (caller : CallerVie
     no_fault copy.ReadOnly e = refl
     no_fault copy.Failed e = refl
 
-    then_ends : {before between after : List Entry} {end : RoundEnd} → CopiesPages start contents caller tag sb before between →
+    pub then_ends : {before between after : List Entry} {end : RoundEnd} → CopiesPages start contents caller tag sb before between →
         SerialCopies ladder start.base tag between after end → SerialCopies ladder start.base tag before after end
     then_ends none_yet rest = rest
     then_ends {before} {between} {after} {end} (one_more {between = older} {reply = reply} copies page goes) rest =
@@ -235,7 +235,7 @@ module _ (start : Start) (contents : List (Tag × List ℕ)) (caller : CallerVie
         record { made = then_ends empties.copies done.made; none_open = done.none_open }
 
   -- whether a victim may be picked, by what a pick answered
-  may_not_busy : (sb : ℕ) (past : List Entry) → victim_of start.base past ≡ Some sb → may_pick start.base past ≡ false
+  pub may_not_busy : (sb : ℕ) (past : List Entry) → victim_of start.base past ≡ Some sb → may_pick start.base past ≡ false
   may_not_busy sb past is = rw (is, may_pick) refl
 
   none_free : (a b : Bool) (free : ℕ) → free ≡ 0 → (a && nat_le 1 free && b) ≡ false
@@ -324,7 +324,7 @@ module _ (start : Start) (contents : List (Tag × List ℕ)) (caller : CallerVie
       }
 
   -- the rounds before the last one
-  none_open_on : {before after : List Entry} → LeavesRounds start contents caller tag before after → open_looks before ≡ [] →
+  pub none_open_on : {before after : List Entry} → LeavesRounds start contents caller tag before after → open_looks before ≡ [] →
       IsLawful start contents after → open_looks after ≡ []
   none_open_on collects.none_yet none lawful = none
   none_open_on {before} {after} (collects.one_more {between = between} rounds off) none lawful =
@@ -332,7 +332,7 @@ module _ (start : Start) (contents : List (Tag × List ℕ)) (caller : CallerVie
       (noted_alone between after off.note
       (none_open_on rounds none (lawful_within ladder start.base between after grows lawful)) lawful off.noted).none_open
 
-  then_decides : {before between after : List Entry} → LeavesRounds start contents caller tag before between →
+  pub then_decides : {before between after : List Entry} → LeavesRounds start contents caller tag before between →
       open_looks before ≡ [] → IsLawful start contents between →
       SerialCollect ladder start.base tag between after → SerialCollect ladder start.base tag before after
   then_decides collects.none_yet none lawful rest = rest

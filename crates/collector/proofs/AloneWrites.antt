@@ -59,7 +59,7 @@ module _ (start : Start) (contents : List (Tag × List ℕ)) (caller : CallerVie
   ladder = ladder_of (coding_of start.base) start contents
 
   -- what a write's step made, upon what the caller had seen
-  wrote : (before after : List Entry) (answer : WriteAnswer) → IsToWrite start.base caller tag row before after (Ok answer) →
+  pub wrote : (before after : List Entry) (answer : WriteAnswer) → IsToWrite start.base caller tag row before after (Ok answer) →
       MakesWrite (OfBase start.base) tag row before answer after
   wrote before after answer tried =
       subst (λ (past : List Entry). MakesWrite (OfBase start.base) tag row past answer after)
@@ -154,7 +154,7 @@ module _ (start : Start) (contents : List (Tag × List ℕ)) (caller : CallerVie
       (goes_on_alone between after
       (none_open_on often none (lawful_within ladder start.base between after grows lawful)) lawful on).none_open
 
-  then_ends : {before between : List Entry} (after : List Entry) → WritesOften start contents caller tag row before between →
+  pub then_ends : {before between : List Entry} (after : List Entry) → WritesOften start contents caller tag row before between →
       open_looks before ≡ [] → IsLawful start contents between →
       SerialWrite ladder start.base tag row between after → SerialWrite ladder start.base tag row before after
   then_ends after turns.none_yet none lawful rest = rest

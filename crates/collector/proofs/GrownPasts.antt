@@ -347,7 +347,7 @@ module _ (start : Start) (contents : List (Tag × List ℕ)) (caller : CallerVie
   write_grows of_each now write.Full seen made = adds _ now seen made.0
   write_grows of_each now write.NeedRoom seen made = is_same now seen made.0
 
-  writing_grows : (before after : List Entry) (result : Result WriteAnswer StepStop) →
+  pub writing_grows : (before after : List Entry) (result : Result WriteAnswer StepStop) →
       IsToWrite start.base caller tag row before after result → Grows before after
   writing_grows before after result tried =
       stepped_grows HasStepRoom (MakesWrite (OfBase start.base) tag row) (write_grows (OfBase start.base)) tag

@@ -1,5 +1,7 @@
 pub mod AloneReplies
+pub mod AloneRooms
 pub mod AloneRounds
+pub mod AloneStops
 pub mod AloneWrites
 pub mod EmptyingSteps
 pub mod FirstCallers

@@ -2,6 +2,8 @@
 //! that its proof needs.
 ghost use Rattle.collector.specs.Alone.{CollectsAloneAreCollects, RoundsAloneAreRounds, WritesAloneAreWrites};
 ghost use Rattle.collector.specs.AloneReplies.{CollectsAloneAreReplied, RoundsAloneAreReplied, WritesAloneAreReplied};
+ghost use Rattle.collector.specs.Rooms.{CollectsAloneFindRoom, WritesAloneFindRoom};
+ghost use Rattle.collector.specs.Stops.{CollectsAloneStopAsCuts, WritesAloneStopAsCuts};
 
 use chan_calls::copies_alone_are_copies;
 
@@ -40,3 +42,31 @@ pub fn rounds_alone_are_replied()
 pub fn collects_alone_are_replied()
     ensures { CollectsAloneAreReplied }
 {}
+
+/// A write of a caller that is alone was cut where the history has no room for its next entry.
+pub fn writes_alone_stop_as_cuts()
+    ensures { WritesAloneStopAsCuts }
+{
+    copies_alone_are_copies();
+}
+
+/// So was such a collect.
+pub fn collects_alone_stop_as_cuts()
+    ensures { CollectsAloneStopAsCuts }
+{
+    copies_alone_are_copies();
+}
+
+/// Each entry of a write of a caller that is alone found room, where each before it did.
+pub fn writes_alone_find_room()
+    ensures { WritesAloneFindRoom }
+{
+    copies_alone_are_copies();
+}
+
+/// So did each entry of such a collect.
+pub fn collects_alone_find_room()
+    ensures { CollectsAloneFindRoom }
+{
+    copies_alone_are_copies();
+}
