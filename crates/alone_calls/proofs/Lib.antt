@@ -1,2 +1,4 @@
 pub mod RepliedReads
-pub mod TriedWrites
+pub mod RepliedRefreshes
+pub mod RoomTests
+pub mod WholeCalls
