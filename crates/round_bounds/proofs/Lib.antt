@@ -1,0 +1,11 @@
+pub mod BadBlocks
+pub mod CopyParts
+pub mod DoneRounds
+pub mod DueRounds
+pub mod EarlierPasts
+pub mod GarbageRounds
+pub mod RoundBounds
+pub mod RoundEnds
+pub mod SpareSlots
+pub mod VictimSteps
+pub mod WornByStay

@@ -1,0 +1,2 @@
+pub mod RoundBounds
+pub mod RoundExamples
