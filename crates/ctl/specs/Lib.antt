@@ -1,0 +1,6 @@
+pub mod Asked
+pub mod ChannelCalls
+pub mod Draining
+pub mod OnOne
+pub mod Seen
+pub mod Served
