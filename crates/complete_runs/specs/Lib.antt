@@ -1,0 +1,7 @@
+pub mod BlankRuns
+pub mod CompleteRuns
+pub mod PlainAnswers
+pub mod TakenWrites
+pub mod ToldLevels
+pub mod TraceAnswers
+pub mod UncountedRuns
