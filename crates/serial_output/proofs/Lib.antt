@@ -1,0 +1,13 @@
+pub mod ExactHints
+pub mod NextEntries
+pub mod RowsApart
+pub mod SameCalls
+pub mod SameEndings
+pub mod SameLooks
+pub mod SameRounds
+pub mod SameRuns
+pub mod SameTexts
+pub mod SameWrites
+pub mod StoppedHints
+pub mod TakenPages
+pub mod ToldViews

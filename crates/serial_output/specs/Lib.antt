@@ -1,0 +1,3 @@
+pub mod ExactHints
+pub mod OneOutput
+pub mod SameChoices
