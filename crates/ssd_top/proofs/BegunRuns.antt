@@ -1,6 +1,6 @@
 -- The channels of a blank drive that stand at their starts, and its worker, are before the first call of a trace.
 use Rattle.std.proofs.Common.{ℕ, zero, suc, ◌≡◌, ◌+◌, ◌<◌, ◌≤◌, true, List, [], ◌∷◌, length, map, replicate, get_or, slice_get, take, All, Option, Some, None, refl, ap, sym, subst, ◌∙◌, arith}
-use Rattle.std.specs.List.{list_all, range_with_len}
+use Rattle.std.specs.List.{range_with_len}
 use Rattle.std.specs.Option.{option_map}
 use Rattle.std.proofs.lemmas.List.{get_or-take, length-map}
 use Rattle.std.proofs.lemmas.List.Elements.{All-nil, All-cons}
@@ -10,17 +10,18 @@ use Rattle.blank_drive.proofs.SameSizes.{same_shape}
 use Rattle.blank_drive.specs.Begun.{StandAtStarts}
 use Rattle.chan_calls.specs.Workers.{WorkerState, WorksFor}
 use Rattle.chan_state.specs.ChannelState.{ChannelState, StandsFor}
+use Rattle.ctl.specs.Asked.{FitsDrive, IsPageOf, settings}
+use Rattle.ctl.specs.Seen.{SeenChannel, Stands, pasts_of, seen}
+use Rattle.ctl.specs.Served.{AreStanding}
 use Rattle.run_laws.specs.HandedCounts.{handed_by_channel, handed_to}
 use Rattle.run_laws.specs.Runs.{FaultCounts}
 use Rattle.run_laws.specs.Serials.{HasSmallSerial, HasSmallSerials}
-use Rattle.run_laws.specs.ServedRuns.{AreStartsOf, BeginsAs, IsUndrainedRun, contents_in}
+use Rattle.run_laws.specs.ServedRuns.{AreStartsOf, BeginsAs, HasLedTo, contents_in}
 use Rattle.run_laws.specs.Starts.{Handed, start_of, starts_from, starts_of}
-use Rattle.run_laws.proofs.UndrainedRuns.{undrained_runs_begin}
+use Rattle.run_laws.proofs.ServedCalls.{served_runs_begin}
 use Rattle.serial_laws.proofs.Lists.{all_at}
-use Rattle.ssd_formats.specs.HistoryText.{is_spelled_entry}
 use Rattle.ssd_formats.specs.ImageContents.{ChannelImage, blank_channel}
 use Rattle.ssd_formats.specs.ImageHead.{Head, head_of, matrix_of_head}
-use Rattle.ssd_formats.proofs.HeadLaws.{both_of}
 use Rattle.ssd_geo.specs.Coding.{matrix_of}
 use Rattle.ssd_geo.specs.Limits.{Sizes}
 use Rattle.ssd_geo.specs.Shape.{sizes_of}
@@ -34,11 +35,10 @@ use Rattle.ssd_histories.specs.HistoryRoom.{found_room}
 use Rattle.ssd_histories.specs.Start.{Start}
 use Rattle.trace_text.specs.NumberedCalls.{IsNumbered}
 use Rattle.ssd_top.proofs.FittingTraces.{are_numbered, fit_drive, have_data}
-use Rattle.ssd_top.specs.Forms.{are_served, blank_input, is_served, is_served_drive}
+use Rattle.ssd_top.specs.Forms.{blank_input}
 use Rattle.ssd_top.specs.Handed.{history_limit}
-use Rattle.ssd_top.specs.Running.{FitsDrive, IsChannelOf, IsRunning, Job, pasts_of}
-use Rattle.ssd_top.specs.Seen.{SeenChannel, seen}
-use Rattle.ssd_top.specs.Workers.{IsWorkerOf, settings}
+use Rattle.ssd_top.specs.Running.{HasFoundRoom, IsRunning, Job}
+use Rattle.ssd_top.specs.Workers.{IsWorkerOf}
 
 -- what holds of the start of each of so many channels, from a number on
 module _ (shape : Shape) (head : Head) (limit : ℕ) (saved : ℕ → ChannelImage) (handed : ℕ → Handed) where
@@ -166,13 +166,13 @@ module _ (head : ImageHead) (trace : Trace) (worker : WorkerState) (is_worker : 
     no_entry : (number : ℕ) (channel : SeenChannel) → slice_get channels number ≡ Some channel → channel.kept.past ≡ []
     no_entry number channel at = stand.no_entries number channel.kept (kept_at number channel at)
 
-    is_channel : (number : ℕ) (start : Start) (channel : SeenChannel) → slice_get starts number ≡ Some start
-        → slice_get channels number ≡ Some channel → IsChannelOf job.input (settings worker) start channel
-    is_channel number start channel start_at_number at =
-        let all_work : All (WorksFor (settings worker)) starts =
-        each_start worker.shape (head_of head) history_limit saved handed (WorksFor (settings worker)) works
-        head.shape.channels 0 in
-        let no_past : channel.kept.past ≡ [] = no_entry number channel at in
+    as_many : length starts ≡ head.shape.channels
+    as_many = as_many_starts worker.shape (head_of head) history_limit saved handed head.shape.channels 0
+
+    -- each channel stands for its start
+    stands_at : (number : ℕ) (start : Start) (channel : SeenChannel) → slice_get starts number ≡ Some start
+        → slice_get channels number ≡ Some channel → Stands channel start (contents_in job.input)
+    stands_at number start channel start_at_number at =
         let there :
         slice_get (starts_of head.shape (head_of head) history_limit job.input.channels
         (handed_by_channel head.shape.channels head.shape.dies before views)) number
@@ -181,23 +181,34 @@ module _ (head : ImageHead) (trace : Trace) (worker : WorkerState) (is_worker : 
         (λ (shape : Shape). slice_get (starts_of shape (head_of head) history_limit job.input.channels
         (handed_by_channel head.shape.channels head.shape.dies before views)) number ≡ Some start)
         (same_shape worker.shape head.shape is_worker.sizes_are) start_at_number in
+        subst (λ (view : Option PolicyView). StandsFor channel.kept view start (contents_in job.input))
+        (view_of head.shape.channels number channel channels views count views_are at)
+        (stand.each number start channel.kept (contents_in job.input) there (kept_at number channel at))
+
+    standing : AreStanding (settings worker) channels starts (contents_in job.input)
+    standing = record {
+      as_many = count ∙ sym as_many;
+      works = λ number start at.
+          all_at (WorksFor (settings worker)) starts number start
+          (each_start worker.shape (head_of head) history_limit saved handed (WorksFor (settings worker)) works
+          head.shape.channels 0)
+          at;
+      stand = stands_at;
+    }
+
+    -- and has no entry yet
+    has_found_room : (number : ℕ) (channel : SeenChannel) → slice_get channels number ≡ Some channel → HasFoundRoom channel
+    has_found_room number channel at =
+        let no_past : channel.kept.past ≡ [] = no_entry number channel at in
         record {
-          works = all_at (WorksFor (settings worker)) starts number start all_work start_at_number;
-          stands =
-              subst (λ (view : Option PolicyView). StandsFor channel.kept view start (contents_in job.input))
-              (view_of head.shape.channels number channel channels views count views_are at)
-              (stand.each number start channel.kept (contents_in job.input) there (kept_at number channel at));
-          has_room = subst (λ (past : List Entry). found_room start.limit past ≡ true) (sym no_past) refl;
-          spelled = subst (λ (past : List Entry). list_all is_spelled_entry past ≡ true) (sym no_past) refl;
-          short = subst (λ (past : List Entry). length past ≤ start.limit) (sym no_past) (omega arith);
+          has_room = subst (λ (past : List Entry). found_room channel.kept.limit past ≡ true) (sym no_past) refl;
+          short = subst (λ (past : List Entry). length past ≤ channel.kept.limit) (sym no_past) (omega arith);
         }
 
-    -- they are before the first call of a trace that is served
-    pub running_begins : is_served job.input ≡ true → IsNumbered (sizes_of head.shape) trace
-        → IsRunning job (settings worker) channels [] (replicate trace.actors [])
-    running_begins served numbered =
-        let as_many : length starts ≡ head.shape.channels =
-        as_many_starts worker.shape (head_of head) history_limit saved handed head.shape.channels 0 in
+    -- they are before the first call of a trace
+    pub running_begins : IsNumbered (sizes_of head.shape) trace
+        → IsRunning job (settings worker) channels [] (replicate trace.actors []) [] 0
+    running_begins numbered =
         record {
           starts = starts;
           starts_are = refl;
@@ -212,11 +223,12 @@ module _ (head : ImageHead) (trace : Trace) (worker : WorkerState) (is_worker : 
             numbered = are_numbered (sizes_of head.shape) trace.actors [] trace.calls numbered.calls;
             have_data = have_data (sizes_of head.shape) trace.actors [] trace.calls numbered.calls;
           };
-          served =
-              subst (IsUndrainedRun (contents_in job.input) starts trace.actors [] (replicate trace.actors []))
+          has_led_to =
+              subst (λ pasts. HasLedTo (contents_in job.input) starts trace.actors [] (replicate trace.actors []) pasts [] 0)
               (no_pasts starts channels (count ∙ sym as_many) no_entry)
-              (undrained_runs_begin (contents_in job.input) starts trace.actors);
-          are_channels = is_channel;
+              (served_runs_begin (contents_in job.input) starts trace.actors);
+          standing = standing;
+          have_room = has_found_room;
           few_channels = omega (arith, count, head.shape.within.channels_high);
           few_actors = numbered.actors_high;
           few_calls = numbered.few;
@@ -225,11 +237,11 @@ module _ (head : ImageHead) (trace : Trace) (worker : WorkerState) (is_worker : 
               (fit_drive (sizes_of head.shape) worker.shape is_worker.sizes_are head.shape.within.channels_low trace.actors []
               trace.calls
               numbered.calls);
+          hints_fit = All-nil (IsPageOf worker.shape (length channels));
           serials =
               each_start worker.shape (head_of head) history_limit saved handed (λ start. HasSmallSerials start.base)
               small_serials
               head.shape.channels 0;
-          all_served = (both_of (is_served_drive (head_of head)) (are_served trace.calls) served).1;
         }
 
 -- so are channels whose `Vec` lent them as a slice
@@ -237,11 +249,10 @@ pub run_begins : {A : Type 0} (items lent : List A) (kept : A → ChannelState) 
     (trace : Trace) (worker : WorkerState) → IsWorkerOf (head_of head) worker → (before : FaultCounts)
     (views : List (Option PolicyView))
     → lent ≡ items → length items ≡ head.shape.channels → StandAtStarts head history_limit before views (map kept items)
-    → map view items ≡ take head.shape.channels views → is_served (blank_input (head_of head) trace) ≡ true
-    → IsNumbered (sizes_of head.shape) trace
+    → map view items ≡ take head.shape.channels views → IsNumbered (sizes_of head.shape) trace
     → IsRunning (record { input = blank_input (head_of head) trace; before = before; views = views }) (settings worker)
-    (map (λ item. seen (kept item) (view item)) lent) [] (replicate trace.actors [])
-run_begins {A = A} items lent kept view head trace worker is_worker before views same count stand views_are served numbered =
+    (map (λ item. seen (kept item) (view item)) lent) [] (replicate trace.actors []) [] 0
+run_begins {A = A} items lent kept view head trace worker is_worker before views same count stand views_are numbered =
     let of_item : A → SeenChannel = λ (item : A). seen (kept item) (view item) in
     let keeps : map (λ channel. channel.kept) (map of_item items) ≡ map kept items =
     map-map (λ (channel : SeenChannel). channel.kept) of_item items in
@@ -250,9 +261,8 @@ run_begins {A = A} items lent kept view head trace worker is_worker before views
     subst
     (λ (list : List A). IsRunning (record { input = blank_input (head_of head) trace; before = before; views = views })
     (settings worker)
-    (map of_item list) [] (replicate trace.actors []))
+    (map of_item list) [] (replicate trace.actors []) [] 0)
     (sym same)
     (running_begins head trace worker is_worker before views (map of_item items) (length-map items of_item ∙ count)
     (subst (λ (all : List ChannelState). StandAtStarts head history_limit before views all) (sym keeps) stand)
-    (tells ∙ views_are) served
-    numbered)
+    (tells ∙ views_are) numbered)

@@ -1,15 +1,18 @@
 -- The channels that a run led to gave back their dies, each as many as it has, in front of those that no channel took.
-use Rattle.std.proofs.Common.{ℕ, suc, ◌≡◌, ◌-◌, ◌*◌, ◌<◌, List, [], ◌∷◌, ◌++◌, All, drop, flat_map, length, map, get_or, slice_get, take, Option, Some, None, refl, ap, sym, ◌∙◌, arith, length-set}
+use Rattle.std.proofs.Common.{ℕ, suc, ◌≡◌, ◌-◌, ◌*◌, ◌<◌, List, [], ◌∷◌, ◌++◌, All, drop, flat_map, length, map, slice_get, take, Option, Some, None, refl, ap, sym, ◌∙◌, arith}
 use Rattle.std.specs.List.{drop-map}
 use Rattle.std.proofs.Math.Seq.{take-append_seam}
-use Rattle.std.proofs.lemmas.List.{length-map}
 use Rattle.std.proofs.lemmas.List.Elements.{All-cons, All-head, All-nil, All-tail}
 use Rattle.std.proofs.lemmas.List.Folds.{flat_map-map}
-use Rattle.std.proofs.lemmas.Option.{slice_get-get_or, slice_get_within}
+use Rattle.std.proofs.lemmas.Option.{slice_get_within}
 use Rattle.std.proofs.lemmas.Simd.{map-map}
 use Rattle.chan_calls.specs.Workers.{WorkerState}
 use Rattle.chan_state.specs.ChannelState.{ChannelState}
+use Rattle.ctl.specs.Seen.{SeenChannel, seen}
+use Rattle.ctl.specs.Served.{AreStanding}
 use Rattle.onfi_cmd.specs.DieState.{DieState}
+use Rattle.run_laws.specs.ServedRuns.{contents_in}
+use Rattle.serial_laws.proofs.Lists.{IsItemAt, item_at}
 use Rattle.ssd_formats.specs.ImageHead.{Head}
 use Rattle.ssd_geo.specs.Limits.{Sizes}
 use Rattle.ssd_geo.specs.Shape.{sizes_of}
@@ -17,57 +20,34 @@ use Rattle.ssd_geo.specs.declared.entry.Entry.{Entry}
 use Rattle.ssd_geo.specs.declared.policy_view.PolicyView.{PolicyView}
 use Rattle.ssd_geo.specs.declared.reply.Reply.{Reply}
 use Rattle.ssd_geo.specs.declared.shape.Shape.{Shape}
-use Rattle.ssd_geo.specs.declared.trace.TraceCall.{TraceCall}
+use Rattle.ssd_geo.specs.declared.tag.Tag.{Tag}
 use Rattle.ssd_histories.specs.History.{history_of}
 use Rattle.ssd_histories.specs.Start.{Start}
-use Rattle.ssd_top.specs.Running.{HasComeSo, IsChannelOf, IsRunning, Job, pasts_of}
-use Rattle.ssd_top.specs.Seen.{SeenChannel, seen}
+use Rattle.ssd_top.specs.Running.{Job}
 use Rattle.ssd_top.specs.Serving.{GiveBack, LeadsTo}
 
 -- channels that stand for starts have as many dies as the head of the image says
-count_of : (job : Job) (worker : WorkerState) (starts : List Start) (channels : List SeenChannel)
-    → sizes_of worker.shape ≡ job.input.head.sizes → length channels ≡ length starts
-    → ((number : ℕ) (start : Start) (channel : SeenChannel) → slice_get starts number ≡ Some start
-    → slice_get channels number ≡ Some channel → IsChannelOf job.input worker start channel)
+count_of : (job : Job) (worker : WorkerState) (starts : List Start) (contents : List (Tag × List ℕ)) (channels : List SeenChannel)
+    → sizes_of worker.shape ≡ job.input.head.sizes → AreStanding worker channels starts contents
     → (number : ℕ) (channel : SeenChannel) → slice_get channels number ≡ Some channel
     → channel.kept.shape.dies ≡ job.input.head.sizes.dies
-count_of job worker [] channels sizes_are long are number channel at =
-    absurd (omega (arith, slice_get_within channels number channel at, long))
-count_of job worker (first ∷ starts) channels sizes_are long are number channel at =
-    let low : number < length (first ∷ starts) = omega (arith, slice_get_within channels number channel at, long) in
-    let start : Start = get_or (first ∷ starts) number first in
-    let is : IsChannelOf job.input worker start channel =
-    are number start channel (slice_get-get_or (first ∷ starts) number first low) at in
-    ap (λ (shape : Shape). shape.dies) (is.stands.shape_is ∙ sym is.works.shape_is)
+count_of job worker starts contents channels sizes_are standing number channel at =
+    let low : number < length starts = omega (arith, slice_get_within channels number channel at, standing.as_many) in
+    let start : IsItemAt starts number = item_at starts number low in
+    ap (λ (shape : Shape). shape.dies)
+    ((standing.stand number start.item channel start.is_there at).shape_is ∙ sym (standing.works number start.item start.is_there).shape_is)
     ∙ ap (λ (sizes : Sizes). sizes.dies) sizes_are
 
-count_of_running : (job : Job) (worker : WorkerState) (channels : List SeenChannel) (done : List TraceCall)
-    (replies : List (List Reply))
-    → IsRunning job worker channels done replies → (number : ℕ) (channel : SeenChannel)
-    → slice_get channels number ≡ Some channel
-    → channel.kept.shape.dies ≡ job.input.head.sizes.dies
-count_of_running job worker channels done replies running =
-    count_of job worker running.starts channels running.sizes_are
-    (sym (length-map channels (λ (channel : SeenChannel). channel.kept.past)) ∙ running.served.as_many) running.are_channels
-
 -- also where a call came only so far
-pub count_of_stopped : (job : Job) (worker : WorkerState) (channels : List SeenChannel) (replies : List (List Reply))
-    (Stops : List Start → List (List Entry) → TraceCall → ℕ → List Entry → Type 0) → HasComeSo job worker channels replies Stops
-    → (number : ℕ) (channel : SeenChannel) → slice_get channels number ≡ Some channel
-    → channel.kept.shape.dies ≡ job.input.head.sizes.dies
-count_of_stopped job worker channels replies Stops come =
-    let long : length (pasts_of channels) ≡ length (pasts_of come.old) =
-    ap (λ (pasts : List (List Entry)). length pasts) come.pasts_are ∙ length-set (pasts_of come.old) come.channel come.now in
-    count_of job worker come.running.starts channels come.running.sizes_are
-    (sym (length-map channels (λ (channel : SeenChannel). channel.kept.past)) ∙ long ∙ come.running.served.as_many)
-    come.are_channels
-
-pub count_of_led : (job : Job) (worker : WorkerState) (channels : List SeenChannel) (replies : List (List Reply))
+pub count_of_led : (job : Job) (worker : WorkerState) (channels : List SeenChannel) (replies : List (List Reply)) (dropped : ℕ)
     (full : Option (ℕ × ℕ))
-    → LeadsTo job worker channels replies full → (number : ℕ) (channel : SeenChannel) → slice_get channels number ≡ Some channel
-    → channel.kept.shape.dies ≡ job.input.head.sizes.dies
-count_of_led job worker channels replies None leads = count_of_running job worker channels job.input.calls.calls replies leads
-count_of_led job worker channels replies (Some stop) leads = count_of_stopped job worker channels replies _ leads
+    → LeadsTo job worker channels replies dropped full → (number : ℕ) (channel : SeenChannel)
+    → slice_get channels number ≡ Some channel → channel.kept.shape.dies ≡ job.input.head.sizes.dies
+count_of_led job worker channels replies dropped None leads =
+    let running = leads.1 in
+    count_of job worker running.starts (contents_in job.input) channels running.sizes_are running.standing
+count_of_led job worker channels replies dropped (Some stop) stopped =
+    count_of job worker stopped.running.starts (contents_in job.input) channels stopped.running.sizes_are stopped.standing
 
 -- channels in a list of items, and what they gave back
 module _ {A X : Type 0} (kept : A → ChannelState) (view : A → Option PolicyView) (state : X → DieState) where

@@ -7,6 +7,8 @@ use Rattle.std.proofs.lemmas.List.{length-append, length-replicate, length-take-
 use Rattle.std.specs.Int.{w64, to_le_bytes}
 use Rattle.std.specs.List.{range_with_len}
 use Rattle.std.specs.Prelude.{All}
+use Rattle.ctl.specs.Asked as Asked
+use Rattle.ctl.specs.Asked.{FitsDrive}
 use Rattle.ssd_geo.specs.Limits.{Sizes}
 use Rattle.ssd_geo.specs.Shape.{sizes_of}
 use Rattle.ssd_geo.specs.Noise.{noise_word}
@@ -21,8 +23,6 @@ use Rattle.ssd_histories.specs.LastWrites.{IsData}
 use Rattle.ssd_histories.specs.CallsInOrder as Calls
 use Rattle.run_laws.specs.SerialRuns.{HasData}
 use Rattle.trace_text.specs.NumberedCalls.{AreNumberedAfter, IsContentOf, IsVerbOf}
-use Rattle.ssd_top.specs.Running.{FitsDrive}
-use Rattle.ssd_top.specs.Workers as Workers
 use Rattle.ssd_top.proofs.SmallBytes.{AreSmall, append_small, padded_small}
 
 -- the bytes of so many words of a generator
@@ -92,7 +92,7 @@ have_data sizes actors before (call ∷ calls) numbered =
     (have_data sizes actors (before ++ call ∷ []) calls numbered.1)
 
 content_fits : (sizes : Sizes) (shape : Shape) → sizes_of shape ≡ sizes → (content : Content) → IsContentOf sizes.bytes content
-    → Workers.IsContentOf shape.bytes content
+    → Asked.IsContentOf shape.bytes content
 content_fits sizes shape same (Listed list) fits = subst (λ (s : Sizes). length list ≤ s.bytes) (sym same) fits.0
 content_fits sizes shape same (Words number) fits = tt
 
@@ -110,8 +110,8 @@ module _ (sizes : Sizes) (shape : Shape) (same : sizes_of shape ≡ sizes) (some
   fits_drive (Write page content) fits = (row_fits page fits.0, content_fits sizes shape same content fits.1)
   fits_drive (Read page) fits = row_fits page fits
   fits_drive (Trim page) fits = row_fits page fits
-  fits_drive (Refresh page) fits = tt
-  fits_drive (Collect channel) fits = tt
+  fits_drive (Refresh page) fits = row_fits page fits
+  fits_drive (Collect channel) fits = fits
   fits_drive (Drain count) fits = tt
   fits_drive (Age channel die sb amount) fits = (
     fits.0,

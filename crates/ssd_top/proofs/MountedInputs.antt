@@ -7,34 +7,16 @@ use Rattle.drive_dies.specs.Mounting.{CountsNone}
 use Rattle.final_dies.specs.FinalDies.{counts_of}
 use Rattle.onfi_cmd.specs.DieState.{DieState}
 use Rattle.run_laws.specs.HandedCounts.{IsRunOver}
-use Rattle.run_laws.specs.NeededRoom.{MeetsNeededRoomOver}
 use Rattle.run_laws.specs.Runs.{FaultCounts}
-use Rattle.ssd_formats.specs.Input.{Input, read_input}
+use Rattle.ssd_formats.specs.Input.{Input}
 use Rattle.ssd_geo.specs.Faults.{RoseBy}
 use Rattle.ssd_geo.specs.declared.policy_view.PolicyView.{PolicyView}
-use Rattle.ssd_top.specs.Forms.{needs_room}
 use Rattle.ssd_top.specs.Handed.{history_limit}
 use Rattle.ssd_top.specs.HandedBack.{AllCountNone, AllCountRuns, CountsRun}
 use Rattle.ssd_top.specs.Serving.{AreGivenBack, HasServed, IsCausedByTold, IsOfInput, IsStop, ServesInput, WasRead}
 use Rattle.ssd_top.specs.declared.printed.Printed.{Printed}
 use Rattle.ssd_top.specs.declared.status.Status.{Status}
 use Rattle.ssd_top.specs.declared.status.Status.TheVariants.{Done, Words, Image, Trace, ReadFault, WriteFault, HistoryLimit, OutOfMemory, DieFailed, NotBuilt}
-
--- a count that stays rose by no fault
-rose_by_none : (before now : ℕ) → now ≡ before → RoseBy 0 before now
-rose_by_none before now same = omega arith
-
--- dies that counted no fault did so in a run
-pub runs_of_none : (olds news : List DieState) → AllCountNone olds news → AllCountRuns olds news
-runs_of_none olds news none = record {
-  count_stays = none.count_stays;
-  each = λ number old new was is.
-      let counts : CountsNone old new = none.each number old new was is in
-      record {
-        loads_stay = counts.loads_stay;
-        works_rose = rose_by_none old.work_count new.work_count counts.works_stay;
-      };
-}
 
 -- a run after mounts
 pub runs_after_mounts : (olds mounted news : List DieState) → AllCountNone olds mounted → AllCountRuns mounted news
@@ -75,16 +57,10 @@ of_handed input olds mounted views back printed counts others is = record {
     others_stay = is.is_run.others_stay ∙ others;
   };
   headline = is.headline;
+  complete = is.complete;
   ends = is.ends;
   is_text = is.is_text;
 }
-
-caused_by : (olds mounted : List DieState) (views : List (Option PolicyView)) (before : Option (List ℕ)) (input : Input)
-    → counts_of mounted ≡ counts_of olds → IfSome before (λ bytes. read_input bytes ≡ Ok input)
-    → MeetsNeededRoomOver input history_limit (counts_of mounted) views → IsCausedByTold olds views before NotBuilt
-caused_by olds mounted views None input counts reads meets = tt
-caused_by olds mounted views (Some bytes) input counts reads meets =
-    needs_room reads (subst (λ (before : FaultCounts). MeetsNeededRoomOver input history_limit before views) counts meets)
 
 module _ (input : Input) (olds mounted : List DieState) (views : List (Option PolicyView)) (back : List DieState) where
   -- what is printed of it is of it
@@ -103,7 +79,7 @@ module _ (input : Input) (olds mounted : List DieState) (views : List (Option Po
   pub is_stop : (before now : ℕ) (outcome : Result Printed Status) → now ≡ before → ServesInput input mounted views back outcome
       → IfErr outcome (IsStop before now)
   is_stop before now (Ok printed) same served = tt
-  is_stop before now (Err NotBuilt) same served = same
+  is_stop before now (Err NotBuilt) same served = absurd served
   is_stop before now (Err OutOfMemory) same served = same
   is_stop before now (Err Done) same served = absurd served
   is_stop before now (Err Words) same served = absurd served
@@ -114,30 +90,28 @@ module _ (input : Input) (olds mounted : List DieState) (views : List (Option Po
   is_stop before now (Err (HistoryLimit channel length)) same served = absurd served
   is_stop before now (Err (DieFailed die)) same served = absurd served
 
-  -- and what isn't built has its cause
-  pub is_caused : (before : Option (List ℕ)) (outcome : Result Printed Status)
-      → IfSome before (λ bytes. read_input bytes ≡ Ok input)
-      → counts_of mounted ≡ counts_of olds → ServesInput input mounted views back outcome
-      → IfErr outcome (IsCausedByTold olds views before)
-  is_caused before (Ok printed) reads counts served = tt
-  is_caused before (Err NotBuilt) reads counts served = caused_by olds mounted views before input counts reads served.0
-  is_caused None (Err OutOfMemory) reads counts served = tt
-  is_caused (Some bytes) (Err OutOfMemory) reads counts served = tt
-  is_caused before (Err Done) reads counts served = absurd served
-  is_caused before (Err Words) reads counts served = absurd served
-  is_caused before (Err (Image at fault)) reads counts served = absurd served
-  is_caused before (Err (Trace line fault)) reads counts served = absurd served
-  is_caused before (Err ReadFault) reads counts served = absurd served
-  is_caused before (Err WriteFault) reads counts served = absurd served
-  is_caused before (Err (HistoryLimit channel length)) reads counts served = absurd served
-  is_caused before (Err (DieFailed die)) reads counts served = absurd served
+  -- and it is no stop that has its cause in the source's bytes
+  pub is_caused : (before : Option (List ℕ)) (outcome : Result Printed Status) → ServesInput input mounted views back outcome
+      → IfErr outcome (IsCausedByTold before)
+  is_caused before (Ok printed) served = tt
+  is_caused before (Err NotBuilt) served = absurd served
+  is_caused None (Err OutOfMemory) served = tt
+  is_caused (Some bytes) (Err OutOfMemory) served = tt
+  is_caused before (Err Done) served = absurd served
+  is_caused before (Err Words) served = absurd served
+  is_caused before (Err (Image at fault)) served = absurd served
+  is_caused before (Err (Trace line fault)) served = absurd served
+  is_caused before (Err ReadFault) served = absurd served
+  is_caused before (Err WriteFault) served = absurd served
+  is_caused before (Err (HistoryLimit channel length)) served = absurd served
+  is_caused before (Err (DieFailed die)) served = absurd served
 
   -- the dies took part in a run, or memory was refused
   pub are_given_back : (outcome : Result Printed Status) → AllCountNone olds mounted
       → ServesInput input mounted views back outcome
       → AreGivenBack outcome olds back
   are_given_back (Ok printed) none served = runs_after_mounts olds mounted back none served.1
-  are_given_back (Err NotBuilt) none served = runs_after_mounts olds mounted back none served.1
+  are_given_back (Err NotBuilt) none served = absurd served
   are_given_back (Err OutOfMemory) none served = tt
   are_given_back (Err Done) none served = absurd served
   are_given_back (Err Words) none served = absurd served

@@ -1,5 +1,6 @@
 -- The status of a run that was printed tells whether it was whole, or where it stopped.
 use Rattle.std.proofs.Common.{ℕ, ◌≡◌, List, Option, Some, None, refl, subst}
+use Rattle.complete_runs.specs.CompleteRuns.{IsComplete}
 use Rattle.onfi_cmd.specs.DieState.{DieState}
 use Rattle.run_laws.specs.Headline.{Headline, IsStoppedRun, IsWholeRun}
 use Rattle.run_laws.specs.Runs.{Run, text_of_run}
@@ -32,7 +33,8 @@ module _ (before after : Option (List ℕ)) (dies : List DieState) (views : List
   abbrev Serves : (Head → Run → Type 0) → Type 0
   Serves Ended =
       (asked : Input) × (run : Run) × (text : Text) × WasRead before after asked × IsRunOf asked dies views back run
-      × Headline asked.head run × Ended asked.head run × (text ≡ text_of_run asked.head run) × IsPrinted text
+      × Headline asked.head run × IsComplete asked.head run × Ended asked.head run × (text ≡ text_of_run asked.head run)
+      × IsPrinted text
 
   serves : (Ended : Head → Run → Type 0) → Ended has.asked.head has.of_input.run → Serves Ended
   serves Ended ended = (
@@ -42,6 +44,7 @@ module _ (before after : Option (List ℕ)) (dies : List DieState) (views : List
     has.was_read,
     has.of_input.is_run,
     has.of_input.headline,
+    has.of_input.complete,
     ended,
     has.of_input.is_text,
     is_printed,

@@ -7,6 +7,8 @@ use Rattle.std.specs.Prelude.{flat_map, slice_get}
 use Rattle.blank_drive.proofs.RunStarts.{part_of, start_at}
 use Rattle.chan_calls.specs.Workers.{WorkerState}
 use Rattle.chan_dies.specs.DiesState.{die_at, no_die}
+use Rattle.ctl.specs.Seen.{SeenChannel, pasts_of}
+use Rattle.ctl.specs.Served.{AreStanding}
 use Rattle.final_dies.proofs.FittingDies.{fitting_dies_hold}
 use Rattle.final_dies.specs.FinalDies.{HoldAndCount, HoldPast, HoldPasts, HoldPastsFrom, counts_of, dies_of_channel}
 use Rattle.onfi_cmd.specs.DieState.{DieState}
@@ -32,8 +34,6 @@ use Rattle.ssd_top.proofs.GivenDies.{IsInPiece, count_in_part, in_piece_or_old, 
 use Rattle.ssd_top.specs.Forms.{blank_input}
 use Rattle.ssd_top.specs.Handed.{history_limit}
 use Rattle.ssd_top.specs.HandedBack.{AllCountRuns, CountsRun}
-use Rattle.ssd_top.specs.Running.{IsChannelOf, pasts_of}
-use Rattle.ssd_top.specs.Seen.{SeenChannel}
 use Rattle.ssd_top.specs.Serving.{GiveBack}
 
 -- what stands in a list has its like in one that is as long
@@ -147,10 +147,7 @@ module _ (head : Head) (asked : Trace) (dies : List DieState) (views : List (Opt
         ≡ starts_of worker.shape head history_limit (blank_input head asked).channels
         (handed_by_channel head.sizes.channels head.sizes.dies (counts_of dies) views)
     pub sizes_are : sizes_of worker.shape ≡ head.sizes
-    pub as_many : length channels ≡ length starts
-    pub are_channels :
-        (n : ℕ) (start : Start) (channel : SeenChannel) → slice_get starts n ≡ Some start → slice_get channels n ≡ Some channel
-        → IsChannelOf (blank_input head asked) worker start channel
+    pub standing : AreStanding worker channels starts (contents_in (blank_input head asked))
 
   module _ (worker : WorkerState) (channels : List SeenChannel) (starts : List Start)
       (stand : StandInRun worker channels starts) where
@@ -161,7 +158,7 @@ module _ (head : Head) (asked : Trace) (dies : List DieState) (views : List (Opt
         (handed_to head.sizes.dies (counts_of dies) views) 0 head.sizes.channels
 
     pub many_channels : length channels ≡ head.sizes.channels
-    many_channels = stand.as_many ∙ many_starts
+    many_channels = stand.standing.as_many ∙ many_starts
 
     -- the start of a number has the counts of that channel's dies, and as many dies
     start_is : (number : ℕ) (start : Start) → slice_get starts number ≡ Some start
@@ -189,7 +186,7 @@ module _ (head : Head) (asked : Trace) (dies : List DieState) (views : List (Opt
         → HoldAndCount (contents_in (blank_input head asked)) (run_with start channel) channel.kept.dies
     hold_and_count n start channel has_start has_channel =
         fitting_dies_hold start (contents_in (blank_input head asked)) channel.kept.past channel.kept.dies channel.kept.sum
-        (stand.are_channels n start channel has_start has_channel).stands.dies_fit
+        (stand.standing.stand n start channel has_start has_channel).dies_fit
 
     -- they are given back
     module _ (back : List DieState) (give : GiveBack head channels dies back) where
@@ -224,7 +221,7 @@ module _ (head : Head) (asked : Trace) (dies : List DieState) (views : List (Opt
       are_counted =
           let counts : ℕ → FaultCounts = counts_of_channel head.sizes.dies (counts_of back) in
           subst (λ (n : ℕ). AreCounted (runs_with starts (pasts_of channels)) (map counts (range_with_len 0 n))) many_starts
-          (counted_from counts 0 starts channels stand.as_many
+          (counted_from counts 0 starts channels stand.standing.as_many
           (from_first (CountAt counts) starts channels
           (λ n start channel has_start has_channel.
           subst (CountsAll (run_with start channel)) (counts_back n channel has_channel)
@@ -251,10 +248,10 @@ module _ (head : Head) (asked : Trace) (dies : List DieState) (views : List (Opt
       die_counts_run : (number : ℕ) (old new : DieState) → slice_get dies number ≡ Some old
           → IsInPiece dies_in head.sizes.dies channels number new → CountsRun old new
       die_counts_run number old new was piece =
-          let there = like_at channels starts piece.piece piece.x stand.as_many piece.has_piece in
+          let there = like_at channels starts piece.piece piece.x stand.standing.as_many piece.has_piece in
           let start : Start = there.0 in
           let low : piece.place < start.base.shape.dies = omega (arith, piece.low, has_dies piece.piece start there.1) in
-          let fit = (stand.are_channels piece.piece start piece.x there.1 piece.has_piece).stands.dies_fit in
+          let fit = (stand.standing.stand piece.piece start piece.x there.1 piece.has_piece).dies_fit in
           let counted : CountsFaults start piece.x.kept.past piece.place (die_at piece.x.kept.dies piece.place).work_count
           (die_at piece.x.kept.dies piece.place).load_count = fit.counts piece.place low in
           let is_die : die_at piece.x.kept.dies piece.place ≡ new =

@@ -1,7 +1,8 @@
 -- How the calls of an input ended, by what they led its channels to and what these gave back.
-use Rattle.std.proofs.Common.{◌≡◌, ◌-◌, ◌≤◌, List, [], ◌++◌, All, drop, flat_map, length, map, replicate, Option, Ok, Err, refl, subst}
+use Rattle.std.proofs.Common.{◌≡◌, ◌≤◌, List, [], ◌++◌, All, drop, flat_map, length, map, replicate, Option, Ok, refl, subst}
 use Rattle.chan_calls.specs.Workers.{WorkerState}
 use Rattle.chan_state.specs.ChannelState.{ChannelState}
+use Rattle.ctl.specs.Seen.{SeenChannel, seen}
 use Rattle.drive_dies.specs.Mounting.{die_count}
 use Rattle.onfi_cmd.specs.DieState.{DieState}
 use Rattle.ssd_formats.specs.ImageHead.{IsHead, head_of}
@@ -9,19 +10,15 @@ use Rattle.ssd_formats.specs.Input.{Input}
 use Rattle.ssd_geo.specs.declared.entry.Entry.{Entry}
 use Rattle.ssd_geo.specs.declared.head.ImageHead.{ImageHead}
 use Rattle.ssd_geo.specs.declared.policy_view.PolicyView.{PolicyView}
-use Rattle.ssd_geo.specs.declared.reply.Reply.{Reply}
 use Rattle.ssd_geo.specs.declared.trace.Trace.{Trace}
 use Rattle.ssd_histories.specs.History.{history_of}
-use Rattle.ssd_top.proofs.EndedChannels.{count_of_led, count_of_stopped, gave_back, histories_of}
-use Rattle.ssd_top.proofs.ServedRuns.{needs_room_over, no_room_dies_count, served_dies_count, served_is_of_input}
+use Rattle.ssd_top.proofs.EndedChannels.{count_of_led, gave_back, histories_of}
+use Rattle.ssd_top.proofs.ServedRuns.{served_dies_count, served_is_of_input}
 use Rattle.ssd_top.specs.Forms.{blank_input}
-use Rattle.ssd_top.specs.Running.{HasToMakeRoom, IsRunning, Job}
-use Rattle.ssd_top.specs.Seen.{SeenChannel, seen}
-use Rattle.ssd_top.specs.Serving.{GiveBack, IsMadeOf, IsServed, LeadsTo, RunsToEnd, RunsToNoRoom, ServesInput, job_of, status_of_stop}
+use Rattle.ssd_top.specs.Running.{IsRunning, Job}
+use Rattle.ssd_top.specs.Serving.{IsMadeOf, IsServed, LeadsTo, RunsToEnd, ServesInput, job_of}
 use Rattle.ssd_top.specs.declared.printed.Printed.{Printed}
 use Rattle.ssd_top.specs.declared.serving.Answered.{Answered}
-use Rattle.ssd_top.specs.declared.serving.TraceStop.{TraceStop}
-use Rattle.ssd_top.specs.declared.serving.TraceStop.TheVariants as trace_stop
 
 -- a worker served the calls of a trace on channels that a run began with, and these came to be these items; then they gave back
 -- their dies and histories
@@ -31,7 +28,7 @@ module _ {A X : Type 0} (old written items : List A) (dies left back : List X) (
     (views : List (Option PolicyView))
     (enough : die_count head ≤ length (map state dies)) (worker : WorkerState) (same : written ≡ items)
     (running : IsRunning (job_of (blank_input (head_of head) trace) (map state dies) views) worker
-    (map (λ item. seen (kept item) (view item)) old) [] (replicate trace.actors []))
+    (map (λ item. seen (kept item) (view item)) old) [] (replicate trace.actors []) [] 0)
     (all : All (λ item. length (kept item).dies ≡ (kept item).shape.dies) items) (left_are : left ≡ drop (die_count head) dies)
     (back_are : map state back ≡ flat_map (λ item. (kept item).dies) items ++ map state left) where
   abbrev input : Input
@@ -49,41 +46,24 @@ module _ {A X : Type 0} (old written items : List A) (dies left back : List X) (
       → RunsToEnd worker (channels_in old) (channels_in written) trace answered → IsMadeOf head trace histories answered printed
       → ServesInput input (map state dies) views (map state back) (Ok printed)
   serves histories answered printed histories_are runs made =
-      let led = runs job refl running in
-      let leads : LeadsTo job worker (channels_in items) (map (λ list. list.items) answered.replies.items) answered.full =
+      let leads : LeadsTo job worker (channels_in items) (map (λ list. list.items) answered.replies.items) answered.dropped
+      answered.full =
       subst (λ (list : List A). LeadsTo job worker (channels_in list) (map (λ list. list.items) answered.replies.items)
-      answered.full)
-      same led.0 in
+      answered.dropped answered.full)
+      same (runs job refl running) in
       let served : IsServed input (map state dies) views (map state back) histories answered =
       record {
         worker = worker;
         channels = channels_in items;
         leads = leads;
-        dropped = led.1;
         histories_are = histories_of kept view state items histories histories_are;
         give_back =
             gave_back kept view state (head_of head) items dies left back
-            (count_of_led job worker (channels_in items) (map (λ list. list.items) answered.replies.items) answered.full leads)
+            (count_of_led job worker (channels_in items) (map (λ list. list.items) answered.replies.items) answered.dropped
+            answered.full leads)
             all left_are
             back_are;
       } in (
         served_is_of_input head trace (map state dies) views (map state back) histories answered printed is_head served made,
         served_dies_count head trace (map state dies) views (map state back) histories answered enough served,
       )
-
-  -- a write has to make room, or memory was refused
-  pub stops : (stop : TraceStop) → RunsToNoRoom worker (channels_in old) (channels_in written) trace stop
-      → ServesInput input (map state dies) views (map state back) (Err (status_of_stop stop))
-  stops trace_stop.NeedsRoom runs =
-      let came = runs job refl running in
-      let replies : List (List Reply) = came.0 in
-      let needs : HasToMakeRoom job worker (channels_in items) replies =
-      subst (λ (list : List A). HasToMakeRoom job worker (channels_in list) replies) same came.1 in
-      let given : GiveBack (head_of head) (channels_in items) (map state dies) (map state back) =
-      gave_back kept view state (head_of head) items dies left back
-      (count_of_stopped job worker (channels_in items) replies _ needs) all left_are back_are in (
-        needs_room_over input (map state dies) views worker (channels_in items) replies needs,
-        no_room_dies_count head trace (map state dies) views (map state back) worker (channels_in items) replies enough needs
-            given,
-      )
-  stops trace_stop.Memory runs = tt

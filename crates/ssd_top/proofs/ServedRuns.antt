@@ -1,27 +1,28 @@
 -- When calls of an input of a blank drive were served, all or those before a stop, what was made to be printed is of a run of
--- the input over the dies and policies that were handed in. Where a write has to make room instead, a run of the input meets
--- it.
-use Rattle.std.proofs.Common.{ℕ, suc, ◌≡◌, ◌-◌, ◌*◌, ◌<◌, ◌≤◌, List, [], ◌∷◌, ◌++◌, Option, Some, None, true, filter, length, map, refl, sym, ap, subst, ◌∙◌, arith, length-set}
+-- the input over the dies and policies that were handed in.
+use Rattle.std.proofs.Common.{ℕ, suc, ◌≡◌, ◌-◌, ◌*◌, ◌^◌, ◌<◌, ◌≤◌, List, [], ◌∷◌, ◌++◌, Option, Some, None, true, filter, length, map, refl, sym, ap, subst, ◌∙◌, arith}
 use Rattle.std.proofs.lemmas.List.FromFn.{get_or-map-range_with_len, length-map-range_with_len}
 use Rattle.std.proofs.lemmas.List.{append-nil, length-map}
 use Rattle.std.proofs.lemmas.List.Sums.{length-filter}
-use Rattle.std.proofs.lemmas.List.Elements.{All-cons, All-nil}
-use Rattle.std.specs.Prelude.{All, IsTrue, slice_get, slice_index_or, slice_set, sum_by}
+use Rattle.std.proofs.lemmas.List.Elements.{All-cons, All-nil, All-weaker}
+use Rattle.std.specs.Prelude.{All, IsTrue, slice_get, slice_index_or}
 use Rattle.chan_calls.specs.Workers.{WorkerState}
+use Rattle.complete_runs.proofs.CompleteRuns.{blank_runs_are_complete}
+use Rattle.ctl.specs.Asked.{FitsDrive}
+use Rattle.ctl.specs.Seen.{SeenChannel, pasts_of}
 use Rattle.drive_dies.specs.Mounting.{die_count}
 use Rattle.final_dies.specs.FinalDies.{counts_of}
 use Rattle.history_text.specs.Places.{AsLong}
 use Rattle.onfi_cmd.specs.DieState.{DieState}
 use Rattle.run_laws.proofs.SerialHeadline.{serial_runs_hold}
-use Rattle.run_laws.proofs.SpelledHistories.{IsSpelledPast, spelled_histories}
 use Rattle.run_laws.proofs.StoppedRuns.{stopped_calls_hold}
 use Rattle.run_laws.specs.HandedCounts.{counts_by_channel}
 use Rattle.run_laws.specs.Headline.{Headline}
-use Rattle.run_laws.specs.NeededRoom.{MeetsNeededRoom, MeetsNeededRoomOver, NeedsRoomAt}
 use Rattle.run_laws.specs.Runs.{Run, runs_with, text_of_run}
 use Rattle.run_laws.specs.SerialRuns.{ChannelsHold, HasCalls, IsHeadlineOfStop, IsHeadlineOfWhole}
-use Rattle.run_laws.specs.ServedRuns.{IsServedFrom, contents_in, hints_in, run_of_input}
-use Rattle.run_laws.specs.StoppedRuns.{StopsAt}
+use Rattle.run_laws.specs.ServedRuns.{HasLedTo, IsServedFrom, contents_in, hints_in, run_of_input, taken_in}
+use Rattle.run_laws.specs.Serials.{HasSmallSerials}
+use Rattle.run_laws.specs.SpelledPasts.{IsSmallVerb}
 use Rattle.serial_laws.proofs.NumberedTags.{counts_grow, counts_in}
 use Rattle.ssd_histories.specs.CallsInOrder.{ChannelRun}
 use Rattle.ssd_histories.specs.History.{history_of}
@@ -32,8 +33,7 @@ use Rattle.ssd_formats.proofs.HeadLaws.{within_is}
 use Rattle.ssd_formats.specs.ImageHead.{Head, IsHead, head_of}
 use Rattle.ssd_formats.specs.Input.{Input}
 use Rattle.ssd_formats.specs.Numbers.{Text}
-use Rattle.ssd_formats.specs.RunText.{run_text, taken_by}
-use Rattle.ssd_histories.specs.SerialHistory.{most_hints}
+use Rattle.ssd_formats.specs.RunText.{run_text}
 use Rattle.ssd_formats.specs.TraceText.{is_of_actor, kind_of_verb, kinds_of_actor, kinds_of_trace}
 use Rattle.ssd_geo.specs.declared.entry.Entry.{Entry}
 use Rattle.ssd_geo.specs.declared.head.ImageHead.{ImageHead}
@@ -41,13 +41,13 @@ use Rattle.ssd_geo.specs.declared.policy_view.PolicyView.{PolicyView}
 use Rattle.ssd_geo.specs.declared.reply.Reply.{Reply}
 use Rattle.ssd_geo.specs.declared.trace.Trace.{Trace}
 use Rattle.ssd_geo.specs.declared.trace.TraceCall.{TraceCall}
-use Rattle.ssd_top.proofs.ServedChannels.{StandInRun, are_counted, dies_count, hold_pasts, like_at, others_stay}
+use Rattle.ssd_top.proofs.ServedChannels.{StandInRun, are_counted, dies_count, hold_pasts, others_stay}
+use Rattle.ssd_top.proofs.ServedVerbs.{small_verb}
 use Rattle.ssd_top.specs.Forms.{blank_input}
-use Rattle.ssd_top.specs.Handed.{IsRunOf, history_limit}
+use Rattle.ssd_top.specs.Handed.{IsRunOf}
 use Rattle.ssd_top.specs.HandedBack.{AllCountRuns}
 use Rattle.ssd_top.specs.Printed.{text_of}
-use Rattle.ssd_top.specs.Running.{HasComeSo, HasToMakeRoom, IsRunning, Job, pasts_of}
-use Rattle.ssd_top.specs.Seen.{SeenChannel}
+use Rattle.ssd_top.specs.Running.{HasStopped, HaveFoundRoom, IsRunning, Job}
 use Rattle.ssd_top.specs.Serving.{EndsAt, GiveBack, IsMadeOf, IsOfInput, IsServed, LeadsTo, job_of}
 use Rattle.ssd_top.specs.declared.printed.Printed.{Printed}
 use Rattle.ssd_top.specs.declared.serving.Answered.{Answered}
@@ -59,17 +59,20 @@ kinds_are_calls : (calls : List TraceCall) (actor : ℕ) → length (kinds_of_ac
 kinds_are_calls calls actor =
     length-map (filter (is_of_actor actor) calls) (λ call. kind_of_verb call.verb) ∙ length-filter (is_of_actor actor) calls
 
--- each actor has replies, for no more calls than it has, and no reply took a hint
-record FitsCalls (input : Input) (replies : List (List Reply)) : Type 0 where
+-- each actor has replies, for no more calls than it has; the hints that were dropped are among those that came, and those that were
+-- taken among the others
+record FitsCalls (input : Input) (replies : List (List Reply)) (dropped : ℕ) : Type 0 where
   as_many_actors : length replies ≡ input.calls.actors
   few :
       (actor : ℕ) → actor < input.calls.actors →
       length (slice_index_or replies actor []) ≤ length (kinds_of_actor input.calls.calls actor)
-  none_taken : sum_by (sum_by taken_by) replies ≡ 0
+  few_dropped : dropped ≤ hints_in replies
+  few_taken : taken_in replies ≤ hints_in replies - dropped
 
 -- so each has as many kinds of calls as replies, or more
-as_long : (input : Input) (replies : List (List Reply)) → FitsCalls input replies → AsLong (kinds_of_trace input.calls) replies
-as_long input replies fits k within =
+as_long : (input : Input) (replies : List (List Reply)) (dropped : ℕ) → FitsCalls input replies dropped
+    → AsLong (kinds_of_trace input.calls) replies
+as_long input replies dropped fits k within =
     let inside : k < input.calls.actors = omega (arith, within, fits.as_many_actors) in
     let kinds : slice_index_or (kinds_of_trace input.calls) k [] ≡ kinds_of_actor input.calls.calls k =
     get_or-map-range_with_len (kinds_of_actor input.calls.calls) 0 input.calls.actors k k [] inside (omega arith) in
@@ -91,13 +94,24 @@ no_more_replies input done rest replies are_calls many actor low =
     ap (λ calls. counts_in calls actor) are_calls in
     omega (arith, as_many, kinds, grow, all)
 
+-- what calls led to fits these and some that follow
+led_fits : (input : Input) (starts : List Start) (done rest : List TraceCall) (replies : List (List Reply))
+    (pasts : List (List Entry)) (hints : List ℕ) (dropped : ℕ) → input.calls.calls ≡ done ++ rest
+    → HasLedTo (contents_in input) starts input.calls.actors done replies pasts hints dropped → FitsCalls input replies dropped
+led_fits input starts done rest replies pasts hints dropped are_calls led = record {
+  as_many_actors = led.has_served.as_many_actors;
+  few = no_more_replies input done rest replies are_calls led.has_served.as_many_replies;
+  few_dropped = omega (arith, led.hints_counted);
+  few_taken = omega (arith, led.hints_counted);
+}
+
 -- ---- the channels
 
 -- what is printed of channels with these replies
-abbrev text_with : Input → List SeenChannel → List (List Reply) → Text
-text_with input channels replies =
+abbrev text_with : Input → List SeenChannel → List (List Reply) → ℕ → Text
+text_with input channels replies dropped =
     run_text true (length input.head.read_levels) (map history_of (pasts_of channels)) (kinds_of_trace input.calls) replies
-    (hints_in replies - most_hints)
+    dropped
 
 -- what holds of each channel of a run holds of all
 all_channels : (P : ChannelRun → Type 0) (starts : List Start) (channels : List SeenChannel)
@@ -109,14 +123,6 @@ all_channels P (start ∷ starts) [] each = All-nil P
 all_channels P (start ∷ starts) (channel ∷ channels) each =
     All-cons P (record { start = start; past = channel.kept.past }) (runs_with starts (pasts_of channels))
     (each 0 start channel refl refl) (all_channels P starts channels (λ n. each (suc n)))
-
-all_spelled : (channels : List SeenChannel)
-    → ((n : ℕ) (channel : SeenChannel) → slice_get channels n ≡ Some channel → IsSpelledPast channel.kept.past)
-    → All IsSpelledPast (pasts_of channels)
-all_spelled [] each = All-nil IsSpelledPast
-all_spelled (channel ∷ channels) each =
-    All-cons IsSpelledPast channel.kept.past (pasts_of channels) (each 0 channel refl)
-    (all_spelled channels (λ n. each (suc n)))
 
 many_pasts : (channels : List SeenChannel) → length (pasts_of channels) ≡ length channels
 many_pasts channels = length-map channels (λ (channel : SeenChannel). channel.kept.past)
@@ -130,42 +136,33 @@ module _ (head : Head) (asked : Trace) (dies : List DieState) (views : List (Opt
 
   -- the channels of a run stand for its starts: after some calls, and where the next call has come so far
   stand_running : (worker : WorkerState) (channels : List SeenChannel) (done : List TraceCall) (replies : List (List Reply))
-      (running : IsRunning job worker channels done replies) → StandInRun head asked dies views worker channels running.starts
-  stand_running worker channels done replies running = record {
+      (hints : List ℕ) (dropped : ℕ) (running : IsRunning job worker channels done replies hints dropped)
+      → StandInRun head asked dies views worker channels running.starts
+  stand_running worker channels done replies hints dropped running = record {
     starts_are = running.starts_are;
     sizes_are = running.sizes_are;
-    as_many = sym (many_pasts channels) ∙ running.served.as_many;
-    are_channels = running.are_channels;
+    standing = running.standing;
   }
 
-  module _ (Stops : List Start → List (List Entry) → TraceCall → ℕ → List Entry → Type 0) where
-    as_many_old : (worker : WorkerState) (channels : List SeenChannel) (replies : List (List Reply))
-        (come : HasComeSo job worker channels replies Stops) → length channels ≡ length come.old
-    as_many_old worker channels replies come =
-        sym (many_pasts channels) ∙ ap (λ (pasts : List (List Entry)). length pasts) come.pasts_are
-        ∙ length-set (pasts_of come.old) come.channel come.now ∙ many_pasts come.old
-
-    stand_come : (worker : WorkerState) (channels : List SeenChannel) (replies : List (List Reply))
-        (come : HasComeSo job worker channels replies Stops)
-        → StandInRun head asked dies views worker channels come.running.starts
-    stand_come worker channels replies come = record {
-      starts_are = come.running.starts_are;
-      sizes_are = come.running.sizes_are;
-      as_many =
-          as_many_old worker channels replies come ∙ sym (many_pasts come.old) ∙ come.running.served.as_many;
-      are_channels = come.are_channels;
-    }
+  stand_stopped : (worker : WorkerState) (channels : List SeenChannel) (replies : List (List Reply)) (dropped at entries : ℕ)
+      (stopped : HasStopped job worker channels replies dropped at entries)
+      → StandInRun head asked dies views worker channels stopped.running.starts
+  stand_stopped worker channels replies dropped at entries stopped = record {
+    starts_are = stopped.running.starts_are;
+    sizes_are = stopped.running.sizes_are;
+    standing = stopped.standing;
+  }
 
   -- ---- the run
 
   module _ (worker : WorkerState) (channels : List SeenChannel) (starts : List Start)
       (stand : StandInRun head asked dies views worker channels starts) (back : List DieState)
-      (give : GiveBack head channels dies back) (replies : List (List Reply)) where
+      (give : GiveBack head channels dies back) (replies : List (List Reply)) (dropped : ℕ) where
     -- the run of calls that were served
     abbrev run_of : Run
     run_of =
         run_of_input input starts replies (pasts_of channels)
-        (counts_by_channel head.sizes.channels head.sizes.dies (counts_of back))
+        (counts_by_channel head.sizes.channels head.sizes.dies (counts_of back)) dropped
 
     is_run_of : IsRunOf input dies views back run_of
     is_run_of = record {
@@ -178,96 +175,112 @@ module _ (head : Head) (asked : Trace) (dies : List DieState) (views : List (Opt
       others_stay = others_stay head asked dies views worker channels starts stand back give;
     }
 
-    -- its calls are numbered and have their data
-    has_calls : IsServedFrom input starts → length replies ≡ asked.actors → HasCalls head run_of
-    has_calls from many = record {
+    -- its calls are numbered and have their data, and their numbers fit their fields
+    has_calls : IsServedFrom input starts → length replies ≡ asked.actors → asked.actors ≤ 32 → length asked.calls ≤ 2 ^ 20 →
+        (count : ℕ) → All (λ call. FitsDrive worker.shape count call.verb) asked.calls → HasCalls head run_of
+    has_calls from many few_actors few_calls count fits = record {
       numbered = from.numbered;
       have_data = from.have_data;
       same_bytes = from.same_bytes;
       as_many_actors = many;
+      few_actors = omega (arith, few_actors);
+      few_calls = omega (arith, few_calls);
+      small_verbs =
+          All-weaker (λ (call : TraceCall). FitsDrive worker.shape count call.verb)
+          (λ (call : TraceCall). IsSmallVerb call.verb)
+          (λ call. small_verb worker.shape count call.verb) asked.calls fits;
     }
 
     -- what its channels have by themselves
-    hold : length channels ≤ 8 → ChannelsHold head run_of
-    hold few_channels = record {
-      as_many_pasts = many_pasts channels ∙ stand.as_many;
+    hold : HaveFoundRoom channels → length channels ≤ 8 → All (λ start. HasSmallSerials start.base) starts
+        → ChannelsHold head run_of
+    hold have_room few_channels serials = record {
+      as_many_pasts = many_pasts channels ∙ stand.standing.as_many;
       are_pasts =
           all_channels (λ run. IsPastOf run.start (contents_in input) run.past) starts channels
-          (λ n start channel has_start has_channel. (stand.are_channels n start channel has_start has_channel).stands.is_past);
+          (λ n start channel has_start has_channel. (stand.standing.stand n start channel has_start has_channel).is_past);
       have_room =
           all_channels (λ run. IsTrue (found_room run.start.limit run.past)) starts channels
-          (λ n start channel has_start has_channel. (stand.are_channels n start channel has_start has_channel).has_room);
+          (λ n start channel has_start has_channel.
+          subst (λ (limit : ℕ). IsTrue (found_room limit channel.kept.past))
+          (stand.standing.stand n start channel has_start has_channel).limit_is (have_room n channel has_channel).has_room);
       are_counted = are_counted head asked dies views worker channels starts stand back give;
-      are_spelled = spelled_histories (pasts_of channels) few (all_spelled channels each);
+      few_channels = let many = stand.standing.as_many in omega (arith, many, few_channels);
+      are_short =
+          all_channels (λ run. length run.past ≤ run.start.limit) starts channels
+          (λ n start channel has_start has_channel.
+          subst (λ (limit : ℕ). length channel.kept.past ≤ limit)
+          (stand.standing.stand n start channel has_start has_channel).limit_is (have_room n channel has_channel).short);
+      serials = serials;
     }
-      where
-        few : length (pasts_of channels) ≤ 256
-        few = let many = many_pasts channels in omega (arith, many, few_channels)
-
-        each : (n : ℕ) (channel : SeenChannel) → slice_get channels n ≡ Some channel → IsSpelledPast channel.kept.past
-        each n channel has_channel =
-            let there = like_at channels starts n channel stand.as_many has_channel in
-            let of = stand.are_channels n there.0 channel there.1 has_channel in
-            let short = of.short in
-            let high = of.stands.is_past.is_start.limit_high in
-            record { spelled = of.spelled; short = omega (arith, short, high) }
 
   -- calls that were served have replies that fit them, and are a run of the input, whose text is that
-  record IsOfRun (channels : List SeenChannel) (back : List DieState) (replies : List (List Reply)) (stop : Option (ℕ × ℕ))
-      : Type 0 where
-    fits : FitsCalls input replies
+  record IsOfRun (channels : List SeenChannel) (back : List DieState) (replies : List (List Reply)) (dropped : ℕ)
+      (stop : Option (ℕ × ℕ)) : Type 0 where
+    fits : FitsCalls input replies dropped
     run : Run
     is_run : IsRunOf input dies views back run
+    some_channel : 0 < length run.starts
+    calls_are : HasCalls head run
     headline : Headline head run
     ends : EndsAt head run stop
-    is_text : text_with input channels replies ≡ text_of_run head run
+    is_text : text_with input channels replies dropped ≡ text_of_run head run
 
   is_of_run : (worker : WorkerState) (channels : List SeenChannel) (back : List DieState) → GiveBack head channels dies back
-      → (replies : List (List Reply)) (stop : Option (ℕ × ℕ)) → LeadsTo job worker channels replies stop
-      → IsOfRun channels back replies stop
-  is_of_run worker channels back give replies None running =
-      let stand = stand_running worker channels asked.calls replies running in
-      let served = running.served.has_served in
-      let holds : IsHeadlineOfWhole head (run_of worker channels running.starts stand back give replies) =
-      serial_runs_hold head (run_of worker channels running.starts stand back give replies) running.served.hints
-      (has_calls worker channels running.starts stand back give replies running.is_served_from served.as_many_actors)
-      (hold worker channels running.starts stand back give replies running.few_channels) served.is_serial in
+      → (replies : List (List Reply)) (dropped : ℕ) (stop : Option (ℕ × ℕ))
+      → LeadsTo job worker channels replies dropped stop → IsOfRun channels back replies dropped stop
+  is_of_run worker channels back give replies dropped None leads =
+      let hints = leads.0 in
+      let running : IsRunning job worker channels asked.calls replies hints dropped = leads.1 in
+      let stand = stand_running worker channels asked.calls replies hints dropped running in
+      let served = running.has_led_to.has_served in
+      let run = run_of worker channels running.starts stand back give replies dropped in
+      let holds : IsHeadlineOfWhole head run =
+      serial_runs_hold head run hints
+      (has_calls worker channels running.starts stand back give replies dropped running.is_served_from served.as_many_actors
+      running.few_actors running.few_calls (length channels) running.fits)
+      (hold worker channels running.starts stand back give replies dropped running.have_room running.few_channels
+      running.serials)
+      served.is_serial in
       record {
-        fits = record {
-          as_many_actors = served.as_many_actors;
-          few = no_more_replies input asked.calls [] replies (sym (append-nil asked.calls)) served.as_many_replies;
-          none_taken = running.served.none_taken;
-        };
-        run = run_of worker channels running.starts stand back give replies;
-        is_run = is_run_of worker channels running.starts stand back give replies;
+        fits =
+            led_fits input running.starts asked.calls [] replies (pasts_of channels) hints dropped (sym (append-nil asked.calls))
+            running.has_led_to;
+        run = run;
+        is_run = is_run_of worker channels running.starts stand back give replies dropped;
+        some_channel = running.is_served_from.some_channel;
+        calls_are =
+            has_calls worker channels running.starts stand back give replies dropped running.is_served_from served.as_many_actors
+            running.few_actors running.few_calls (length channels) running.fits;
         headline = holds.headline;
         ends = holds.is_whole;
         is_text = refl;
       }
-  is_of_run worker channels back give replies (Some stop) come =
-      let Stops : List Start → List (List Entry) → TraceCall → ℕ → List Entry → Type 0 = λ starts pasts call named now.
-      (named ≡ stop.0) × StopsAt (contents_in input) starts pasts call named stop.1 now in
-      let running = come.running in
-      let stand = stand_come Stops worker channels replies come in
-      let served = running.served.has_served in
-      let few : length channels ≤ 8 =
-      subst (λ (n : ℕ). n ≤ 8) (sym (as_many_old Stops worker channels replies come)) running.few_channels in
-      let holds : IsHeadlineOfStop head (run_of worker channels running.starts stand back give replies) stop.0 stop.1 =
-      stopped_calls_hold head (run_of worker channels running.starts stand back give replies) (pasts_of come.old) come.done
-      come.rest come.call stop.0 stop.1 come.now
-      (has_calls worker channels running.starts stand back give replies running.is_served_from served.as_many_actors)
-      (hold worker channels running.starts stand back give replies few) come.are_calls running.served
-      (subst (λ (named : ℕ). StopsAt (contents_in input) running.starts (pasts_of come.old) come.call named stop.1 come.now)
-      come.stops.0 come.stops.1)
-      (come.pasts_are ∙ ap (λ (named : ℕ). slice_set (pasts_of come.old) named come.now) come.stops.0) refl in
+  is_of_run worker channels back give replies dropped (Some stop) stopped =
+      let running = stopped.running in
+      let stand = stand_stopped worker channels replies dropped stop.0 stop.1 stopped in
+      let served = running.has_led_to.has_served in
+      let run = run_of worker channels running.starts stand back give replies dropped in
+      let many = stopped.standing.as_many in
+      let many_old = running.standing.as_many in
+      let few : length channels ≤ 8 = omega (arith, many, many_old, running.few_channels) in
+      let holds : IsHeadlineOfStop head run stop.0 stop.1 =
+      stopped_calls_hold head run (pasts_of stopped.old) stopped.hints stopped.left stopped.done stopped.rest stopped.call stop.0
+      stop.1
+      (has_calls worker channels running.starts stand back give replies dropped running.is_served_from served.as_many_actors
+      running.few_actors running.few_calls (length stopped.old) running.fits)
+      (hold worker channels running.starts stand back give replies dropped stopped.have_room few running.serials)
+      stopped.are_calls running.has_led_to stopped.stops in
       record {
-        fits = record {
-          as_many_actors = served.as_many_actors;
-          few = no_more_replies input come.done (come.call ∷ come.rest) replies come.are_calls served.as_many_replies;
-          none_taken = running.served.none_taken;
-        };
-        run = run_of worker channels running.starts stand back give replies;
-        is_run = is_run_of worker channels running.starts stand back give replies;
+        fits =
+            led_fits input running.starts stopped.done (stopped.call ∷ stopped.rest) replies (pasts_of stopped.old) stopped.hints
+            dropped stopped.are_calls running.has_led_to;
+        run = run;
+        is_run = is_run_of worker channels running.starts stand back give replies dropped;
+        some_channel = running.is_served_from.some_channel;
+        calls_are =
+            has_calls worker channels running.starts stand back give replies dropped running.is_served_from served.as_many_actors
+            running.few_actors running.few_calls (length stopped.old) running.fits;
         headline = holds.headline;
         ends = holds.is_stopped;
         is_text = refl;
@@ -278,17 +291,15 @@ module _ (head : Head) (asked : Trace) (dies : List DieState) (views : List (Opt
   -- each die of a run that was served counts as one that took part
   dies_count_served : (worker : WorkerState) (channels : List SeenChannel) (back : List DieState)
       → GiveBack head channels dies back → head.sizes.channels * head.sizes.dies ≤ length dies
-      → (replies : List (List Reply)) (stop : Option (ℕ × ℕ)) → LeadsTo job worker channels replies stop
-      → AllCountRuns dies back
-  dies_count_served worker channels back give enough replies None running =
+      → (replies : List (List Reply)) (dropped : ℕ) (stop : Option (ℕ × ℕ))
+      → LeadsTo job worker channels replies dropped stop → AllCountRuns dies back
+  dies_count_served worker channels back give enough replies dropped None leads =
+      let running : IsRunning job worker channels asked.calls replies leads.0 dropped = leads.1 in
       dies_count head asked dies views worker channels running.starts
-      (stand_running worker channels asked.calls replies running) back give enough
-  dies_count_served worker channels back give enough replies (Some stop) come =
-      dies_count head asked dies views worker channels come.running.starts
-      (stand_come
-      (λ starts pasts call named now. (named ≡ stop.0) × StopsAt (contents_in input) starts pasts call named stop.1 now) worker
-      channels replies come)
-      back give enough
+      (stand_running worker channels asked.calls replies leads.0 dropped running) back give enough
+  dies_count_served worker channels back give enough replies dropped (Some stop) stopped =
+      dies_count head asked dies views worker channels stopped.running.starts
+      (stand_stopped worker channels replies dropped stop.0 stop.1 stopped) back give enough
 
 -- ---- what is printed
 
@@ -307,29 +318,30 @@ pub served_is_of_input : (head : ImageHead) (asked : Trace) (dies : List DieStat
 served_is_of_input head asked dies views back histories answered printed is_head served made =
     let replies : List (List Reply) = map (λ list. list.items) answered.replies.items in
     let of =
-    is_of_run (head_of head) asked dies views served.worker served.channels back served.give_back replies answered.full
-    served.leads in
+    is_of_run (head_of head) asked dies views served.worker served.channels back served.give_back replies answered.dropped
+    answered.full served.leads in
     let count : length (kinds_of_trace asked) ≡ asked.actors =
     length-map-range_with_len (kinds_of_actor asked.calls) 0 asked.actors in
-    let few_hints : hints_in replies - most_hints ≤ hints_in replies = omega arith in
     let levels : printed.head.read_levels ≡ head.read_levels = ap (λ (other : ImageHead). other.read_levels) made.head_is in
     let few_levels : length head.read_levels ≤ 16 = within_is 1 16 (length head.read_levels) is_head.level_count in
     let printed_histories : printed.histories.items ≡ map history_of (pasts_of served.channels) =
     made.histories_are ∙ served.histories_are ∙ through served.channels in
-    let dropped : printed.dropped ≡ hints_in replies - most_hints = made.dropped_is ∙ served.dropped in
-    let text : text_with (blank_input (head_of head) asked) served.channels replies ≡ text_of printed =
-    rw (levels, printed_histories, made.kinds_are, made.replies_are, dropped) refl in
+    let text : text_with (blank_input (head_of head) asked) served.channels replies answered.dropped ≡ text_of printed =
+    rw (levels, printed_histories, made.kinds_are, made.replies_are, made.dropped_is) refl in
     record {
       printable = record {
         few_levels = rw levels few_levels;
         lists = rw (made.kinds_are, made.replies_are) (count ∙ sym of.fits.as_many_actors);
-        long = rw (made.kinds_are, made.replies_are) (as_long (blank_input (head_of head) asked) replies of.fits);
-        dropped = rw (dropped, made.replies_are) few_hints;
-        none_taken = rw made.replies_are of.fits.none_taken;
+        long = rw (made.kinds_are, made.replies_are) (as_long (blank_input (head_of head) asked) replies answered.dropped of.fits);
+        dropped = rw (made.dropped_is, made.replies_are) of.fits.few_dropped;
+        taken = rw (made.dropped_is, made.replies_are) of.fits.few_taken;
       };
       run = of.run;
       is_run = of.is_run;
       headline = of.headline;
+      complete =
+          blank_runs_are_complete (head_of head) of.run of.some_channel
+          (record { is_head = is_head; limit = _; handed = _; begins = of.is_run.is_over.begins }) of.calls_are of.headline;
       ends = subst (λ (other : Option (ℕ × ℕ)). EndsAt (head_of head) of.run other) (sym made.full_is) of.ends;
       is_text = sym text ∙ of.is_text;
     }
@@ -340,45 +352,4 @@ pub served_dies_count : (head : ImageHead) (asked : Trace) (dies : List DieState
     → IsServed (blank_input (head_of head) asked) dies views back histories answered → AllCountRuns dies back
 served_dies_count head asked dies views back histories answered enough served =
     dies_count_served (head_of head) asked dies views served.worker served.channels back served.give_back enough
-    (map (λ list. list.items) answered.replies.items) answered.full served.leads
-
--- ---- where a write has to make room
-
--- a run of the input meets the write
-pub needs_room_over : (input : Input) (dies : List DieState) (views : List (Option PolicyView)) (worker : WorkerState)
-    (channels : List SeenChannel) (replies : List (List Reply))
-    → HasToMakeRoom (job_of input dies views) worker channels replies
-    → MeetsNeededRoomOver input history_limit (counts_of dies) views
-needs_room_over input dies views worker channels replies come = record {
-  shape = worker.shape;
-  sizes_are = come.running.sizes_are;
-  meets =
-      subst (MeetsNeededRoom input) come.running.starts_are
-      (record {
-        is_served_from = come.running.is_served_from;
-        done = come.done;
-        rest = come.rest;
-        call = come.call;
-        are_calls = come.are_calls;
-        pasts = pasts_of come.old;
-        replies = replies;
-        served = come.running.served;
-        channel = come.channel;
-        now = come.now;
-        needs = come.stops;
-      });
-}
-
--- and each die counts as one that took part in a run
-pub no_room_dies_count : (head : ImageHead) (asked : Trace) (dies : List DieState) (views : List (Option PolicyView))
-    (back : List DieState) (worker : WorkerState) (channels : List SeenChannel) (replies : List (List Reply))
-    → die_count head ≤ length dies
-    → HasToMakeRoom (job_of (blank_input (head_of head) asked) dies views) worker channels replies
-    → GiveBack (head_of head) channels dies back → AllCountRuns dies back
-no_room_dies_count head asked dies views back worker channels replies enough come give =
-    dies_count (head_of head) asked dies views worker channels come.running.starts
-    (stand_come (head_of head) asked dies views
-    (λ starts pasts call channel now.
-    NeedsRoomAt (contents_in (blank_input (head_of head) asked)) starts pasts call channel now)
-    worker channels replies come)
-    back give enough
+    (map (λ list. list.items) answered.replies.items) answered.dropped answered.full served.leads

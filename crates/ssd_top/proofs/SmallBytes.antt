@@ -1,22 +1,7 @@
 -- The bytes of a page's payload and those of its word are small.
-use Rattle.std.proofs.Common.{ℕ, zero, suc, ◌≡◌, ◌+◌, ◌-◌, ◌/◌, ◌<◌, ◌++◌, get_or, replicate, List, [], ◌∷◌, length, sym, ap, subst, ◌∙◌, arith}
-use Rattle.std.proofs.lemmas.List.FromFn.{length-map-range_with_len}
+use Rattle.std.proofs.Common.{ℕ, zero, suc, ◌+◌, ◌-◌, ◌<◌, ◌++◌, get_or, replicate, List, [], ◌∷◌, length, arith}
 use Rattle.std.specs.List.{AllByRecursion}
-use Rattle.ssd_geo.specs.Bits.{IsOfBits, bit_of, bits_of, byte_of}
 use Rattle.ssd_geo.specs.PageHead.{head_of_page, payload_of_page}
-use Rattle.ldpc_encode.proofs.Bytes.{bytes_of-small}
-
--- a list of bytes that is that of some bits has as many bytes as these need
-pub length_of_bits : (n : ℕ) (word : List ℕ) → IsOfBits n word → length word ≡ (n + 7) / 8
-length_of_bits n word of_bits =
-    ap (length {A = ℕ}) (sym of_bits)
-    ∙ length-map-range_with_len (byte_of (bits_of n word)) 0 ((length (bits_of n word) + 7) / 8)
-    ∙ ap (λ (k : ℕ). (k + 7) / 8) (length-map-range_with_len (bit_of word) 0 n)
-
--- and each of them is a byte
-pub small_of_bits : (n : ℕ) (word : List ℕ) → IsOfBits n word → (i : ℕ) → get_or word i 0 < 256
-small_of_bits n word of_bits i =
-    subst (λ (bytes : List ℕ). get_or bytes i 0 < 256) of_bits (bytes_of-small (bits_of n word) i)
 
 abbrev pub AreSmall : List ℕ → Type 0
 AreSmall bytes = AllByRecursion (λ byte. byte < 256) bytes

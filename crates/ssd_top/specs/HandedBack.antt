@@ -36,11 +36,11 @@ AllCountNone olds news = EachBecomes (λ number old new. CountsNone old new) old
 abbrev pub AreHandedBack : Status → List DieState → List DieState → Type 0
 AreHandedBack Words olds news = news ≡ olds
 AreHandedBack (Image at fault) olds news = news ≡ olds
+AreHandedBack NotBuilt olds news = news ≡ olds
 AreHandedBack (Trace line fault) olds news = AllCountNone olds news
 AreHandedBack ReadFault olds news = AllCountNone olds news
 AreHandedBack (DieFailed die) olds news = CountsFailure die olds news
 AreHandedBack Done olds news = AllCountRuns olds news
 AreHandedBack WriteFault olds news = AllCountRuns olds news
 AreHandedBack (HistoryLimit channel length) olds news = AllCountRuns olds news
-AreHandedBack NotBuilt olds news = AllCountRuns olds news
 AreHandedBack OutOfMemory olds news = ⊤

@@ -1,11 +1,8 @@
-pub mod ChannelCalls
 pub mod Forms
 pub mod Handed
 pub mod HandedBack
-pub mod Noiseless
 pub mod Printed
 pub mod Running
-pub mod Seen
 pub mod Serving
 pub mod Statuses
 pub mod Workers

@@ -1,21 +1,20 @@
 -- What is printed, and when may it be? The histories, the kinds of calls and the replies are lists
--- that fit each other, and no hint was taken.
-use Rattle.std.specs.Prelude.{ℕ, ◌≡◌, ◌≤◌, true, length, Option, Some, None, sum_by}
+-- that fit each other, and the hints that were dropped or taken are among those that came.
+use Rattle.std.specs.Prelude.{ℕ, ◌≡◌, ◌≤◌, ◌-◌, true, length, Option, Some, None}
 use Rattle.history_text.specs.Places.{AsLong}
-use Rattle.run_laws.specs.ServedRuns.{hints_in}
+use Rattle.run_laws.specs.ServedRuns.{hints_in, taken_in}
 use Rattle.ssd_formats.specs.Numbers.{Text}
-use Rattle.ssd_formats.specs.RunText.{run_text, taken_by}
+use Rattle.ssd_formats.specs.RunText.{run_text}
 use Rattle.ssd_top.specs.declared.printed.Printed.{Printed}
 use Rattle.ssd_top.specs.declared.status.Status.{Status}
 
--- the lists fit each other, the hints that were dropped are among those that came, and none was
--- taken
+-- the lists fit each other, the hints that were dropped are among those that came, and those that were taken among the others
 pub record IsPrintable (printed : Printed) : Type 0 where
   pub few_levels : length printed.head.read_levels ≤ 16
   pub lists : length printed.kinds.items ≡ length printed.replies.items
   pub long : AsLong printed.kinds.items printed.replies.items
   pub dropped : printed.dropped ≤ hints_in printed.replies.items
-  pub none_taken : sum_by (sum_by taken_by) printed.replies.items ≡ 0
+  pub taken : taken_in printed.replies.items ≤ hints_in printed.replies.items - printed.dropped
 
 -- the text
 abbrev pub text_of : Printed → Text

@@ -1,7 +1,7 @@
 -- What has come of the top call's source and sink, where it served an input and where it didn't? A
 -- source that tells its bytes says which input was served, or what was wrong with it; the facts are
 -- those of the bytes that it had.
-use Rattle.std.specs.Prelude.{ℕ, ◌≡◌, ◌-◌, ◌*◌, ◌++◌, true, All, List, [], drop, flat_map, length, map, replicate, Result, Ok, Err, Option, Some, None, IfSome, ⊤}
+use Rattle.std.specs.Prelude.{ℕ, ◌≡◌, ◌*◌, ◌++◌, true, All, List, [], drop, flat_map, length, map, replicate, Result, Ok, Err, Option, Some, None, IfSome, ⊤}
 use Rattle.ssd_formats.specs.ImageHead.{Head}
 use Rattle.ssd_formats.specs.Input.{Input, read_input}
 use Rattle.ssd_geo.specs.Faults.{Rose}
@@ -14,15 +14,14 @@ use Rattle.image_file.specs.declared.stop.ReadStop.TheVariants as StopVariants
 use Rattle.trace_text.specs.Answers.{named_fault as trace_fault}
 use Rattle.trace_text.specs.declared.fault.TraceFault.{TraceFault}
 use Rattle.chan_calls.specs.Workers.{WorkerState}
+use Rattle.complete_runs.specs.CompleteRuns.{IsComplete}
+use Rattle.ctl.specs.Seen.{SeenChannel}
 use Rattle.drive_dies.specs.declared.mounting.MountStop.{MountStop}
 use Rattle.drive_dies.specs.declared.mounting.MountStop.TheVariants as MountVariants
 use Rattle.final_dies.specs.FinalDies.{counts_of}
 use Rattle.onfi_cmd.specs.DieState.{DieState}
 use Rattle.run_laws.specs.Headline.{Headline, IsStoppedRun, IsWholeRun}
-use Rattle.run_laws.specs.NeededRoom.{MeetsNeededRoomOver}
 use Rattle.run_laws.specs.Runs.{Run, text_of_run}
-use Rattle.run_laws.specs.ServedRuns.{hints_in}
-use Rattle.ssd_histories.specs.SerialHistory.{most_hints}
 use Rattle.ssd_histories.specs.History.{history_of}
 use Rattle.ssd_formats.specs.TraceText.{kinds_of_trace}
 use Rattle.ssd_geo.specs.declared.entry.Entry.{Entry}
@@ -31,15 +30,12 @@ use Rattle.ssd_geo.specs.declared.policy_view.PolicyView.{PolicyView}
 use Rattle.ssd_geo.specs.declared.reply.Reply.{Reply}
 use Rattle.ssd_geo.specs.declared.trace.Trace.{Trace as TraceOf}
 use Rattle.ssd_top.specs.Forms.{IsUnserved, is_served}
-use Rattle.ssd_top.specs.Handed.{IsRunOf, history_limit}
+use Rattle.ssd_top.specs.Handed.{IsRunOf}
 use Rattle.ssd_top.specs.HandedBack.{AllCountRuns, AreHandedBack}
 use Rattle.ssd_top.specs.Printed.{IsPrintable, text_of}
-use Rattle.ssd_top.specs.Running.{HasStopped, HasToMakeRoom, IsRunning, Job}
-use Rattle.ssd_top.specs.Seen.{SeenChannel}
+use Rattle.ssd_top.specs.Running.{HasStopped, IsRunning, Job}
 use Rattle.ssd_top.specs.declared.printed.Printed.{Printed}
 use Rattle.ssd_top.specs.declared.serving.Answered.{Answered}
-use Rattle.ssd_top.specs.declared.serving.TraceStop.{TraceStop}
-use Rattle.ssd_top.specs.declared.serving.TraceStop.TheVariants as trace_stop
 use Rattle.ssd_top.specs.declared.status.Status.{Status}
 use Rattle.ssd_top.specs.declared.status.Status.TheVariants.{Done, Words, Image, Trace, ReadFault, WriteFault, HistoryLimit, OutOfMemory, DieFailed as DieFailedStatus, NotBuilt}
 
@@ -60,26 +56,23 @@ EndsAt head run (Some stop) = IsStoppedRun head run stop.0 stop.1
 abbrev pub Ends : Head → Run → Type 0
 Ends head run = (stop : Option (ℕ × ℕ)) × EndsAt head run stop
 
--- a status that names a fault names the first of these bytes, and one of what isn't built has its
--- cause in them, over these dies and policies that tell these views
-abbrev pub IsCausedBy : List DieState → List (Option PolicyView) → Status → List ℕ → Type 0
-IsCausedBy dies views (Image at fault) input_bytes =
-    read_input input_bytes ≡ Err (image at (image_fault fault))
-IsCausedBy dies views (Trace line fault) input_bytes =
-    read_input input_bytes ≡ Err (trace line (trace_fault fault))
-IsCausedBy dies views NotBuilt input_bytes = IsUnserved dies views input_bytes
-IsCausedBy dies views status input_bytes = ⊤
+-- a status that names a fault names the first of these bytes, and one of what isn't built has its cause in them
+abbrev pub IsCausedBy : Status → List ℕ → Type 0
+IsCausedBy (Image at fault) input_bytes = read_input input_bytes ≡ Err (image at (image_fault fault))
+IsCausedBy (Trace line fault) input_bytes = read_input input_bytes ≡ Err (trace line (trace_fault fault))
+IsCausedBy NotBuilt input_bytes = IsUnserved input_bytes
+IsCausedBy status input_bytes = ⊤
 
-abbrev pub IsCausedByTold : List DieState → List (Option PolicyView) → Option (List ℕ) → Status → Type 0
-IsCausedByTold dies views before status = IfSome before (IsCausedBy dies views status)
+abbrev pub IsCausedByTold : Option (List ℕ) → Status → Type 0
+IsCausedByTold before status = IfSome before (IsCausedBy status)
 
--- the calls of a job, all or those before a stop, led to these channels and replies
+-- the calls of a job, all or those before a stop, led to these channels and replies, and so many hints dropped
 abbrev pub LeadsTo :
-    Job → WorkerState → List SeenChannel → List (List Reply) → Option (ℕ × ℕ) → Type 0
-LeadsTo job worker channels replies None =
-    IsRunning job worker channels job.input.calls.calls replies
-LeadsTo job worker channels replies (Some stop) =
-    HasStopped job worker channels replies stop.0 stop.1
+    Job → WorkerState → List SeenChannel → List (List Reply) → ℕ → Option (ℕ × ℕ) → Type 0
+LeadsTo job worker channels replies dropped None =
+    (hints : List ℕ) × IsRunning job worker channels job.input.calls.calls replies hints dropped
+LeadsTo job worker channels replies dropped (Some stop) =
+    HasStopped job worker channels replies dropped stop.0 stop.1
 
 -- whatever run began with these channels and this trace, its calls, all or those before a stop, led
 -- it to these channels and answers
@@ -87,18 +80,8 @@ abbrev pub RunsToEnd :
     WorkerState → List SeenChannel → List SeenChannel → TraceOf → Answered → Type 0
 RunsToEnd worker old new asked answered =
     (job : Job) → job.input.calls ≡ asked →
-    IsRunning job worker old [] (replicate asked.actors []) →
-    LeadsTo job worker new (map (λ list. list.items) answered.replies.items) answered.full
-    × (answered.dropped ≡ hints_in (map (λ list. list.items) answered.replies.items) - most_hints)
-
--- whatever run began with these channels and this trace, some write of it has to make room
-abbrev pub RunsToNoRoom :
-    WorkerState → List SeenChannel → List SeenChannel → TraceOf → TraceStop → Type 0
-RunsToNoRoom worker old new asked trace_stop.NeedsRoom =
-    (job : Job) → job.input.calls ≡ asked →
-    IsRunning job worker old [] (replicate asked.actors []) →
-    (replies : List (List Reply)) × HasToMakeRoom job worker new replies
-RunsToNoRoom worker old new asked trace_stop.Memory = ⊤
+    IsRunning job worker old [] (replicate asked.actors []) [] 0 →
+    LeadsTo job worker new (map (λ list. list.items) answered.replies.items) answered.dropped answered.full
 
 -- the job of an input over dies and policies that tell these views
 abbrev pub job_of : Input → List DieState → List (Option PolicyView) → Job
@@ -110,18 +93,15 @@ pub record GiveBack (head : Head) (channels : List SeenChannel) (dies back : Lis
   pub back_are :
       back ≡ flat_map (λ channel. channel.kept.dies) channels ++ drop (head.sizes.channels * head.sizes.dies) dies
 
--- the calls of an input were served over dies and policies: they led to these histories, replies and number of hints, and the
--- dies came back so
+-- the calls of an input were served over dies and policies: they led to these histories, replies and number of dropped hints,
+-- and the dies came back so
 pub record IsServed (input : Input) (dies : List DieState) (views : List (Option PolicyView)) (back : List DieState)
     (histories : List (List Entry)) (answered : Answered) : Type 0 where
   pub worker : WorkerState
   pub channels : List SeenChannel
   pub leads :
       LeadsTo (job_of input dies views) worker channels
-      (map (λ list. list.items) answered.replies.items) answered.full
-  pub dropped :
-      answered.dropped
-      ≡ hints_in (map (λ list. list.items) answered.replies.items) - most_hints
+      (map (λ list. list.items) answered.replies.items) answered.dropped answered.full
   pub histories_are : histories ≡ map (λ channel. history_of channel.kept.past) channels
   pub give_back : GiveBack input.head channels dies back
 
@@ -142,6 +122,7 @@ pub record IsOfInput (asked : Input) (dies : List DieState) (views : List (Optio
   pub run : Run
   pub is_run : IsRunOf asked dies views back run
   pub headline : Headline asked.head run
+  pub complete : IsComplete asked.head run
   pub ends : EndsAt asked.head run printed.full
   pub is_text : text_of printed ≡ text_of_run asked.head run
 
@@ -155,8 +136,6 @@ pub record HasServed (before after : Option (List ℕ)) (dies : List DieState) (
 -- how the calls of an input ended, with the dies that came back
 abbrev pub ServesInput : Input → List DieState → List (Option PolicyView) → List DieState → Result Printed Status → Type 0
 ServesInput input dies views back (Ok printed) = IsOfInput input dies views back printed × AllCountRuns dies back
-ServesInput input dies views back (Err NotBuilt) =
-    MeetsNeededRoomOver input history_limit (counts_of dies) views × AllCountRuns dies back
 ServesInput input dies views back (Err OutOfMemory) = ⊤
 ServesInput input dies views back (Err status) = ⊥
 
@@ -182,11 +161,6 @@ status_of_trace Memory = OutOfMemory
 abbrev pub status_of_mount : MountStop → Status
 status_of_mount (MountVariants.Failed die) = DieFailedStatus die
 status_of_mount MountVariants.Memory = OutOfMemory
-
--- and that of calls that weren't all served, where nothing is to be printed
-abbrev pub status_of_stop : TraceStop → Status
-status_of_stop trace_stop.NeedsRoom = NotBuilt
-status_of_stop trace_stop.Memory = OutOfMemory
 
 -- no die has a part in a stop
 abbrev pub IsNoDie : {F : Type 0} → ReadStop F → Type 0

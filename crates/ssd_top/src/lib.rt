@@ -2,10 +2,7 @@
 //! source holds and answers how that ended. It knows no operating system.
 #![tactic(auto)]
 
-mod content;
-mod form;
 mod lists;
-mod noiseless;
 mod printed;
 mod serve;
 mod serving;
@@ -14,6 +11,5 @@ mod top;
 mod words;
 mod worker;
 
-pub use noiseless::noiseless_pages_are_read_at_once;
 pub use status::{Status, status_text};
 pub use top::{Ended, run};

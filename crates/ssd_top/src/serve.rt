@@ -1,20 +1,19 @@
 // An input, from its bytes to what is printed of it.
-ghost use Rattle.std.specs.Prelude.{◌≡◌, ◌≤◌, true, IfErr, IfOk, OnOk, map, vec_len};
+ghost use Rattle.std.specs.Prelude.{◌≡◌, ◌≤◌, IfErr, IfOk, OnOk, map, vec_len};
 ghost use Rattle.drive_dies.specs.Mounting.{AreReady};
 ghost use Rattle.ssd_geo.specs.Faults.{NeverFell};
 ghost use Rattle.ssd_formats.specs.ImageHead.{IsHead, head_of};
 ghost use Rattle.ssd_geo.specs.Shape.{sizes_of};
-ghost use Rattle.ssd_top.specs.Forms.{blank_input, is_served};
+ghost use Rattle.ssd_top.specs.Forms.{blank_input};
 ghost use Rattle.ssd_top.specs.HandedBack.{AreHandedIn, most_channels};
 ghost use Rattle.ssd_top.specs.Serving.{AreGivenBack, HasServed, IsCausedByTold, IsMadeOf, IsNoDie, IsStop, ServesInput};
-ghost use Rattle.ssd_top.specs.Serving.{status_of_image, status_of_mount, status_of_stop, status_of_trace};
+ghost use Rattle.ssd_top.specs.Serving.{status_of_image, status_of_mount, status_of_trace};
 ghost use Rattle.trace_text.specs.NumberedCalls.{IsNumbered};
 
 use crate::Status;
-use crate::form::is_served;
 use crate::lists::{kinds_of, replies_of};
 use crate::printed::Printed;
-use crate::serving::{Answered, TraceStop, serve_trace};
+use crate::serving::{Answered, serve_trace};
 use crate::worker::worker_of;
 use blank_drive::{Ended, begin_channels, end_channels, mount_drive};
 use drive_dies::MountStop;
@@ -59,16 +58,6 @@ fn trace_status(stop: ReadStop<TraceFault>) -> Status
         ReadStop::ReadFault => Status::ReadFault,
         ReadStop::DieFailed { .. } => unreachable!(),
         ReadStop::Memory => Status::OutOfMemory,
-    }
-}
-
-// The status of calls that weren't all served, where nothing is to be printed.
-fn stop_status(stop: TraceStop) -> Status
-    ensures { result ≡ status_of_stop stop }
-{
-    match stop {
-        TraceStop::NeedsRoom => Status::NotBuilt,
-        TraceStop::Memory => Status::OutOfMemory,
     }
 }
 
@@ -124,7 +113,6 @@ fn serve<D: Die, P: Policy>(
 ) -> Answer<D>
     requires head { IsHead (head_of head) }
     requires calls { IsNumbered (sizes_of head.shape) trace.now }
-    requires served { is_served (blank_input (head_of head) trace.now) ≡ true }
     requires dies { AreReady head (map D.state dies.items) }
     requires policies { head.shape.channels ≤ vec_len policies }
     ensures { ServesInput (blank_input (head_of head) trace.now) (map D.state dies.items)
@@ -146,7 +134,7 @@ fn serve<D: Die, P: Policy>(
             Ok(printed) => Ok(printed),
             Err(Memory) => Err(Status::OutOfMemory),
         },
-        Err(stop) => Err(stop_status(stop)),
+        Err(Memory) => Err(Status::OutOfMemory),
     };
     Answer { outcome, dies }
 }
@@ -161,7 +149,7 @@ fn out_of_memory<D: Die>(dies: Vec<D>) -> Answer<D>
     }
 }
 
-// Reads an input and serves it. The dies are mounted once the head of the image is read.
+// Reads an input and serves it. The dies are mounted once the head of a blank image is read.
 pub fn serve_input<S: Source, D: Die, P: Policy>(
     alloc: Global,
     input: &mut S,
@@ -174,8 +162,7 @@ pub fn serve_input<S: Source, D: Die, P: Policy>(
         (map (λ policy. P.told policy) policies.items) (map D.state result.dies.items)) }
     ensures stays { OnOk result.outcome (S.faults input.new ≡ S.faults input.old) }
     ensures stop { IfErr result.outcome (IsStop (S.faults input.old) (S.faults input.new)) }
-    ensures caused { IfErr result.outcome (IsCausedByTold (map D.state dies.items)
-        (map (λ policy. P.told policy) policies.items) (S.left input.old)) }
+    ensures caused { IfErr result.outcome (IsCausedByTold (S.left input.old)) }
     ensures dies { AreGivenBack result.outcome (map D.state dies.items) (map D.state result.dies.items) }
     ensures reads { NeverFell (S.faults input.old) (S.faults input.new) }
 {
@@ -205,9 +192,5 @@ pub fn serve_input<S: Source, D: Die, P: Policy>(
             return Answer { outcome, dies };
         }
     };
-    if !is_served(&head, &trace) {
-        let outcome = Err(Status::NotBuilt);
-        return Answer { outcome, dies };
-    }
     serve(alloc, head, &trace, dies, policies)
 }

@@ -1,154 +1,48 @@
 // The calls of a trace, served one after the other.
-ghost use Rattle.std.specs.Prelude.{◌≡◌, ◌≤◌, ◌<◌, ◌/◌, [], IfErr, IfOk, IsTrue, OnOk, Some, length, map, replicate};
+ghost use Rattle.std.specs.Prelude.{◌≡◌, ◌≤◌, ◌<◌, ◌-◌, ◌^◌, [], IfOk, OnOk, length, map, replicate};
+ghost use Rattle.ctl.specs.Asked.{settings};
+ghost use Rattle.ctl.specs.Seen.{seen};
 ghost use Rattle.run_laws.specs.SerialRuns.{with_reply};
-ghost use Rattle.run_laws.specs.ServedRuns.{channel_of};
-ghost use Rattle.ssd_formats.specs.RunText.{is_hinted};
-ghost use Rattle.ssd_top.specs.ChannelCalls.{EndsOn, MayServe, end_of};
-ghost use Rattle.ssd_top.specs.Forms.{is_served_verb};
-ghost use Rattle.ssd_top.specs.Running.{BeginsRun, FitsDrive, GoesOn, IsNext, StopsSo};
-ghost use Rattle.ssd_top.specs.Seen.{seen};
-ghost use Rattle.ssd_top.specs.Serving.{RunsToEnd, RunsToNoRoom};
-ghost use Rattle.ssd_top.specs.Workers.{settings};
+ghost use Rattle.run_laws.specs.ServedRuns.{dropped_after};
+ghost use Rattle.ssd_formats.specs.RunText.{taken_by};
+ghost use Rattle.ssd_top.specs.Running.{BeginsRun, waiting_after};
+ghost use Rattle.ssd_top.specs.Serving.{RunsToEnd};
 
-use crate::content::content_into;
-use alone_calls::{WriteEnd, age, read, trim, write};
-use chan_calls::{Alone, Worker};
+use chan_calls::Worker;
 use chan_state::Channel;
+use ctl::{is_hint, serve_one};
+use hint_queue::HintList;
 use onfi_cmd::Die;
-use ssd_geo::{Memory, Reply, StepStop, Trace, TraceCall, Verb};
+use ssd_geo::{Memory, Reply, ServeStop, Trace};
 use std::alloc::Global;
 use victim::Policy;
 
-// The greatest number of hints that are kept. None is taken yet, so each further one is dropped.
+// How many hints wait at most. Each further one is dropped.
 const MOST_HINTS: u32 = 256;
 
-// The channel of a call, of so many.
-fn channel_of(verb: &Verb, channels: usize) -> usize
-    requires low { 1 ≤ channels }
-    requires verb { IsTrue (is_served_verb verb.now) }
-    ensures { channel_of channels verb.now ≡ Some result }
+// How many hints wait after a reply, where so many waited before it.
+fn waiting_after(reply: &Reply, waiting: u32) -> u32
+    requires taken { taken_by reply.now ≤ waiting }
+    ensures { result ≡ waiting_after reply.now waiting }
 {
-    match verb {
-        Verb::Write { page, .. } | Verb::Read { page } | Verb::Trim { page } => {
-            *page as usize % channels
-        }
-        Verb::Age { channel, .. } => *channel as usize,
-        _ => unreachable!(),
+    if is_hint(reply) && waiting < MOST_HINTS {
+        return waiting + 1;
     }
-}
-
-// The row of a page on its channel, of so many.
-fn row_of(page: u32, channels: usize) -> u32
-    requires low { 1 ≤ channels }
-    requires high { channels ≤ 8 }
-    ensures { result ≡ page / channels }
-{
-    page / channels as u32
-}
-
-// The reply of a call that has one, as the end of the call.
-fn replied(reply: Result<Reply, StepStop>) -> Result<WriteEnd, StepStop>
-    ensures { result ≡ end_of reply }
-{
     match reply {
-        Ok(reply) => Ok(WriteEnd::Replied { reply }),
-        Err(stop) => Err(stop),
+        Reply::Drained { pages } => waiting - pages.len() as u32,
+        _ => waiting,
     }
 }
 
-// Serves a call on its channel, of so many. The data of a write are made in `bytes`.
-fn call_on<D: Die, P: Policy>(
-    alloc: Global,
-    worker: &mut Worker,
-    channel: &mut Channel<D, P>,
-    bytes: &mut [u8],
-    call: &TraceCall,
-    channels: usize,
-) -> Result<WriteEnd, StepStop>
-    requires low { 1 ≤ channels }
-    requires high { channels ≤ 8 }
-    requires may { MayServe (settings worker.old)
-        (seen channel.old.kept (P.told channel.old.policy)) call.now.tag call.now.verb }
-    requires fits { FitsDrive worker.old.shape channels call.now.verb }
-    requires verb { IsTrue (is_served_verb call.now.verb) }
-    requires bytes { length bytes.old ≡ worker.old.shape.bytes }
-    ensures same { settings worker.new ≡ settings worker.old }
-    ensures bytes { length bytes.new ≡ length bytes.old }
-    ensures ends { EndsOn (settings worker.old) channels (seen channel.old.kept (P.told channel.old.policy))
-        (seen channel.new.kept (P.told channel.new.policy)) call.now.tag call.now.verb result }
+// How many hints were dropped after a reply, where so many waited before it.
+fn dropped_after(reply: &Reply, waiting: u32, dropped: u32) -> u32
+    requires few { dropped < 2 ^ 32 - 1 }
+    ensures { result ≡ dropped_after reply.now waiting dropped }
 {
-    let tag = call.tag;
-    let mut steps = Alone::new(channel);
-    match &call.verb {
-        Verb::Write { page, content } => {
-            content_into(content, bytes);
-            write(worker, &mut steps, tag, row_of(*page, channels), bytes)
-        }
-        Verb::Read { page } => replied(read(
-            alloc,
-            worker,
-            &mut steps,
-            tag,
-            row_of(*page, channels),
-        )),
-        Verb::Trim { page } => match trim(&mut steps, tag, row_of(*page, channels)) {
-            Ok(()) => Ok(WriteEnd::Replied { reply: Reply::Ok }),
-            Err(stop) => Err(stop),
-        },
-        Verb::Age {
-            die,
-            sb,
-            amount,
-            ..
-        } => replied(age(&mut steps, tag, *die, *sb, *amount)),
-        _ => unreachable!(),
+    if is_hint(reply) && waiting >= MOST_HINTS {
+        return dropped + 1;
     }
-}
-
-// Why a call has no reply.
-enum CallStop {
-    // The history of this channel has no room for the next entry, and has this length.
-    HistoryFull { channel: u8, length: u32 },
-    // It is a write that has to make room.
-    NeedsRoom,
-    // Memory was wanted and refused.
-    Memory,
-}
-
-// Serves the next call of a run. The data of a write are made in `bytes`.
-fn serve_call<D: Die, P: Policy>(
-    alloc: Global,
-    worker: &mut Worker,
-    channels: &mut [Channel<D, P>],
-    bytes: &mut [u8],
-    call: &TraceCall,
-) -> Result<Reply, CallStop>
-    requires next { IsNext (settings worker.old)
-        (map (λ channel. seen channel.kept (P.told channel.policy)) channels.old) call.now }
-    requires verb { IsTrue (is_served_verb call.now.verb) }
-    requires bytes { length bytes.old ≡ worker.old.shape.bytes }
-    ensures same { settings worker.new ≡ settings worker.old }
-    ensures bytes { length bytes.new ≡ length bytes.old }
-    ensures ok { IfOk result (λ reply.
-        GoesOn (settings worker.old)
-        (map (λ channel. seen channel.kept (P.told channel.policy)) channels.old)
-        (map (λ channel. seen channel.kept (P.told channel.policy)) channels.new) call.now reply) }
-    ensures stop { IfErr result (λ stop.
-        StopsSo (settings worker.old)
-        (map (λ channel. seen channel.kept (P.told channel.policy)) channels.old)
-        (map (λ channel. seen channel.kept (P.told channel.policy)) channels.new) call.now stop) }
-{
-    let count = channels.len();
-    let channel = channel_of(&call.verb, count);
-    match call_on(alloc, worker, &mut channels[channel], bytes, call, count) {
-        Ok(WriteEnd::Replied { reply }) => Ok(reply),
-        Ok(WriteEnd::NeedsRoom) => Err(CallStop::NeedsRoom),
-        Err(StepStop::HistoryFull { length }) => Err(CallStop::HistoryFull {
-            channel: channel as u8,
-            length,
-        }),
-        Err(StepStop::Memory) => Err(CallStop::Memory),
-    }
+    dropped
 }
 
 // Lists without replies, one for each actor.
@@ -178,20 +72,13 @@ fn add_reply(replies: &mut Vec<Vec<Reply>>, actor: u8, reply: Reply) -> Result<(
 }
 
 // The replies of the calls of a trace that were answered: all, or those before a stop at the limit of
-// this channel's history, which then had this length; and how many hints were dropped. Item n of the
-// replies has those of actor n.
+// this channel's history, which then had this length; and how many hints of these replies were dropped.
+// Item n of the replies has those of actor n.
 #[derive(Drop)]
 pub struct Answered {
     pub replies: Vec<Vec<Reply>>,
     pub full: Option<(u8, u32)>,
     pub dropped: u32,
-}
-
-// Whether a reply is a hint: data of a rung that isn't 0.
-fn is_hint(reply: &Reply) -> bool
-    ensures { result ≡ is_hinted reply.now }
-{
-    matches!(reply, Reply::Data { rung, .. } if *rung != 0)
 }
 
 // A list of so many zeros.
@@ -201,22 +88,13 @@ fn zeros(alloc: Global, count: usize) -> Result<Vec<u8>, Memory>
     vec![in alloc; 0; count].map_err(|_| Memory)
 }
 
-// Why the calls of a trace weren't all served, where nothing is to be printed.
-#[derive(Drop)]
-pub enum TraceStop {
-    // A write has to make room.
-    NeedsRoom,
-    // Memory was wanted and refused.
-    Memory,
-}
-
 // Serves the calls of a trace, to the first that finds no room in its channel's history.
 pub fn serve_trace<D: Die, P: Policy>(
     alloc: Global,
     worker: &mut Worker,
     channels: &mut [Channel<D, P>],
     trace: &Trace,
-) -> Result<Answered, TraceStop>
+) -> Result<Answered, Memory>
     requires begins { BeginsRun (settings worker.old)
         (map (λ channel. seen channel.kept (P.told channel.policy)) channels.old) trace.now }
     ensures same { settings worker.new ≡ settings worker.old }
@@ -224,39 +102,31 @@ pub fn serve_trace<D: Die, P: Policy>(
         RunsToEnd (settings worker.old)
         (map (λ channel. seen channel.kept (P.told channel.policy)) channels.old)
         (map (λ channel. seen channel.kept (P.told channel.policy)) channels.new) trace.now answered) }
-    ensures stop { IfErr result (λ stop.
-        RunsToNoRoom (settings worker.old)
-        (map (λ channel. seen channel.kept (P.told channel.policy)) channels.old)
-        (map (λ channel. seen channel.kept (P.told channel.policy)) channels.new) trace.now stop) }
 {
-    let Ok(mut replies) = no_replies(alloc, trace.actors) else {
-        return Err(TraceStop::Memory);
-    };
-    let Ok(mut bytes) = zeros(alloc, worker.shape().bytes as usize) else {
-        return Err(TraceStop::Memory);
-    };
-    let mut hints = 0u32;
+    let mut replies = no_replies(alloc, trace.actors)?;
+    let mut bytes = zeros(alloc, worker.shape().bytes as usize)?;
+    let mut hints = HintList::new(alloc)?;
+    let mut waiting = 0u32;
+    let mut dropped = 0u32;
     for call in trace.calls.as_slice() {
-        let reply = match serve_call(alloc, worker, channels, &mut bytes, call) {
+        let reply = match serve_one(alloc, channels, worker, &mut hints, &mut bytes, call) {
             Ok(reply) => reply,
-            Err(CallStop::HistoryFull { channel, length }) => {
+            Err(ServeStop::HistoryFull { channel, length }) => {
                 return Ok(Answered {
                     replies,
                     full: Some((channel, length)),
-                    dropped: hints.saturating_sub(MOST_HINTS),
+                    dropped,
                 });
             }
-            Err(CallStop::NeedsRoom) => return Err(TraceStop::NeedsRoom),
-            Err(CallStop::Memory) => return Err(TraceStop::Memory),
+            Err(ServeStop::Memory) => return Err(Memory),
         };
-        hints += u32::from(is_hint(&reply));
-        let Ok(()) = add_reply(&mut replies, call.tag.actor, reply) else {
-            return Err(TraceStop::Memory);
-        };
+        dropped = dropped_after(&reply, waiting, dropped);
+        waiting = waiting_after(&reply, waiting);
+        add_reply(&mut replies, call.tag.actor, reply)?;
     }
     Ok(Answered {
         replies,
         full: None,
-        dropped: hints.saturating_sub(MOST_HINTS),
+        dropped,
     })
 }

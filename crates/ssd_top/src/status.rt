@@ -32,7 +32,7 @@ pub enum Status {
     OutOfMemory,
     /// This die, counted over all channels, failed before the first call.
     DieFailed { die: u8 },
-    /// The input isn't one of those that are served today.
+    /// The image has contents, which aren't read today.
     NotBuilt,
 }
 

@@ -2,6 +2,7 @@ ghost use Rattle.std.specs.Prelude.{ℕ, ◌≡◌, ◌≢◌, ◌⊎◌, [], �
 ghost use Rattle.std.specs.Io.KnownBytes.{Appends};
 ghost use Rattle.ssd_geo.specs.Faults.{NeverFell, Rose};
 ghost use Rattle.ssd_io.specs.Pieces.{AppendsFront};
+ghost use Rattle.complete_runs.specs.CompleteRuns.{IsComplete};
 ghost use Rattle.run_laws.specs.Headline.{Headline, IsStoppedRun, IsWholeRun};
 ghost use Rattle.run_laws.specs.Runs.{Run, text_of_run};
 ghost use Rattle.ssd_formats.specs.Input.{Input};
@@ -63,25 +64,27 @@ pub fn run<S: Source, O: Sink, D: Die>(
 
     // A fault that is named is the first of what the source had, and what isn't built has its cause
     // in that.
-    ensures caused { IsCausedByTold (map D.state dies.items) (map (λ policy. told policy) policies.items)
-        (S.left input.old) result.status }
+    ensures caused { IsCausedByTold (S.left input.old) result.status }
 
     // The source had an input, which was read to its end. There is a run of that input: its
     // histories are lawful, each entry found room, each die counted its faults, and their text tells
     // them; the calls are in order in them, each reply is that of its entries, and each page that was
-    // recovered is the last write's. The dies hold what the histories say, and the text of the run was written.
+    // recovered is the last write's. It is complete: where no die counted a fault
+    // no reply tells of one, and then, as image and trace are, each write is done and each read
+    // answers what its row holds. The dies hold what the histories say, and the text of the run was written.
     ensures headline { result.status ≡ Status.Done
         → (asked : Input) × (run : Run) × (text : Text)
         × WasRead (S.left input.old) (S.left input.new) asked × IsRunOf asked (map D.state dies.items)
         (map (λ policy. told policy) policies.items) (map D.state result.dies.items) run
-        × Headline asked.head run × IsWholeRun asked.head run × (text ≡ text_of_run asked.head run)
+        × Headline asked.head run × IsComplete asked.head run × IsWholeRun asked.head run
+        × (text ≡ text_of_run asked.head run)
         × Appends (O.written output.old) (O.written output.new) text }
     // So it was, and the run stopped: the history of this channel had no room for a call's next entry.
     ensures headline_at_limit { (channel entries : ℕ) → result.status ≡ Status.HistoryLimit channel entries
         → (asked : Input) × (run : Run) × (text : Text)
         × WasRead (S.left input.old) (S.left input.new) asked × IsRunOf asked (map D.state dies.items)
         (map (λ policy. told policy) policies.items) (map D.state result.dies.items) run
-        × Headline asked.head run × IsStoppedRun asked.head run channel entries
+        × Headline asked.head run × IsComplete asked.head run × IsStoppedRun asked.head run channel entries
         × (text ≡ text_of_run asked.head run)
         × Appends (O.written output.old) (O.written output.new) text }
     // Where the sink failed, a front of the text of a run was written, which was whole or had stopped.
@@ -89,7 +92,8 @@ pub fn run<S: Source, O: Sink, D: Die>(
         → (asked : Input) × (run : Run) × (text : Text)
         × WasRead (S.left input.old) (S.left input.new) asked × IsRunOf asked (map D.state dies.items)
         (map (λ policy. told policy) policies.items) (map D.state result.dies.items) run
-        × Headline asked.head run × Ends asked.head run × (text ≡ text_of_run asked.head run)
+        × Headline asked.head run × IsComplete asked.head run × Ends asked.head run
+        × (text ≡ text_of_run asked.head run)
         × AppendsFront (O.written output.old) (O.written output.new) text }
 
     // Else nothing was written.

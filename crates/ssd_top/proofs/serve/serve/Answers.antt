@@ -1,12 +1,12 @@
-use Rattle.std.proofs.Common.{◌∙◌, Result, Err, map, refl, sym, subst, ap, arith}
+use Rattle.std.proofs.Common.{◌∙◌, Result, map, refl, sym, subst, arith}
+use Rattle.ctl.specs.Asked.{settings}
 use Rattle.final_dies.specs.FinalDies.{counts_of}
 use Rattle.ssd_formats.specs.ImageHead.{head_of}
 use Rattle.ssd_top.proofs.BegunRuns.{run_begins}
 use Rattle.ssd_top.proofs.EndedChannels.{written_whole}
-use Rattle.ssd_top.proofs.ServedEnds.{serves, stops}
+use Rattle.ssd_top.proofs.ServedEnds.{serves}
 use Rattle.ssd_top.specs.Forms.{blank_input}
 use Rattle.ssd_top.specs.Serving.{ServesInput, job_of}
-use Rattle.ssd_top.specs.Workers.{settings}
 use Rattle.ssd_top.specs.declared.printed.Printed.{Printed}
 use Rattle.ssd_top.specs.declared.status.Status.{Status}
 use Rattle.ssd_top.proofs.serve.serve.Goals.{in-Ok-answered, in-Ok-printed_of, in-Err-printed_of, in-Err}
@@ -24,7 +24,7 @@ serve_trace-answered-requires g c =
             (λ channel. g.P.Policy.told channel.policy) c.args.head c.args.trace.now c.in-Ok.worker
             c.in-Ok.ensures (counts_of (map g.D.Die.state c.args.dies.items)) views c.deref_mut.ensures.value
             (omega (arith, c.in-Ok-begin_channels.ensures.count)) c.in-Ok-begin_channels.ensures.starts
-            c.in-Ok-begin_channels.ensures.views c.requires.served c.requires.calls;
+            c.in-Ok-begin_channels.ensures.views c.requires.calls;
         few_calls = c.requires.calls.few;
       };
     }
@@ -40,8 +40,7 @@ returns g c =
     (λ channel. g.P.Policy.told channel.policy) c.args.head c.args.trace.now c.in-Ok.worker
     c.in-Ok.ensures (counts_of (map g.D.Die.state c.args.dies.items)) views c.deref_mut.ensures.value
     (omega (arith, c.in-Ok-begin_channels.ensures.count)) c.in-Ok-begin_channels.ensures.starts
-    c.in-Ok-begin_channels.ensures.views
-    c.requires.served c.requires.calls in
+    c.in-Ok-begin_channels.ensures.views c.requires.calls in
     let whole =
     written_whole c.serve_trace-answered.new.channels c.in-Ok-begin_channels.channels.items c.in-Ok-begin_channels.channels.len
     (omega arith) in
@@ -61,12 +60,5 @@ returns g c =
             made.in-Ok-printed_of.ensures)
         | in-Err-printed_of failed ↦ subst ends (sym (w.outcome-is ∙ failed.outcome-is)) tt
       ]
-      | in-Err w ↦
-          subst ends (sym (w.outcome-is ∙ ap (λ (status : Status). Err status) w.stop_status.ensures))
-          (stops c.deref_mut.result.now c.serve_trace-answered.new.channels _ c.args.dies.items c.begin_channels.new.dies.items
-          c.in-Ok-end_channels.field-0.dies.items (λ channel. channel.kept)
-          (λ channel. g.P.Policy.told channel.policy) g.D.Die.state c.args.head c.requires.head
-          c.args.trace.now views c.requires.dies.enough (settings c.in-Ok.worker) whole running
-          c.in-Ok-end_channels.ensures.counts
-          c.in-Ok-begin_channels.ensures.left c.in-Ok-end_channels.ensures.dies w.in-Err.stop w.in-Err.ensures.stop)
+      | in-Err w ↦ subst ends (sym w.outcome-is) tt
     ]
