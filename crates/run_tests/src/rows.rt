@@ -123,10 +123,70 @@ hint 0 0 0
 end
 ";
 
+const DRAINED: &str = "channel 0 14
+0 0.0 write 0 0.0
+1 0.1 age 1.0 150
+2 0.2 look 0 page 0.0 0 open
+3 0.2 sense 2 1.0.0 0
+4 0.2 sense 2 1.0.0 -60
+5 0.2 leave 2
+6 0.3 look 0 page 0.0 0 open
+7 0.3 sense 6 1.0.0 0
+8 0.3 sense 6 1.0.0 -60
+9 0.3 move 6 0.1
+10 0.3 leave 6
+11 0.4 look 0 page 0.1 0 closed
+12 0.4 sense 11 2.0.0 0
+13 0.4 leave 11
+actor 0 5
+0 ok
+1 ok
+2 data 1 0900000000000000
+3 drained 1 0=moved
+4 data 0 0900000000000000
+summary
+write 1 0 0 0
+read 2 0 0 0
+trim 0
+move 1 condemn 0 changed 0 stay 0
+pick 0 erase 0 bad 0 fault 0
+sense 5
+rung 1 1 0 0
+hint 1 0 1
+end
+";
+
+const REFRESHED: &str = "channel 0 9
+0 0.0 write 5 0.0
+1 0.1 look 5 page 0.0 0 open
+2 0.1 sense 1 1.0.0 0
+3 0.1 move 1 0.1
+4 0.1 leave 1
+5 0.2 look 4 empty
+6 0.3 look 5 page 0.1 0 closed
+7 0.3 sense 6 2.0.0 0
+8 0.3 leave 6
+actor 0 4
+0 ok
+1 moved
+2 empty
+3 data 0 0102000000000000
+summary
+write 1 0 0 0
+read 1 0 0 0
+trim 0
+move 1 condemn 0 changed 0 stay 0
+pick 0 erase 0 bad 0 fault 0
+sense 2
+rung 1 0 0 0
+hint 0 0 0
+end
+";
+
 // Runs that were worked out by hand. The change makes two channels of one.
 #[test]
 fn runs_are_printed_as_worked_out(rt: HostRuntime) -> Result<(), Fail> {
-    let table: [((usize, u8), &[u8], &str); 6] = [
+    let table: [((usize, u8), &[u8], &str); 8] = [
         (SAME, TRACE, ONE_PAGE),
         (SAME, b"trace 1 1\n", NO_CALLS),
         (
@@ -144,6 +204,16 @@ fn runs_are_printed_as_worked_out(rt: HostRuntime) -> Result<(), Fail> {
             SAME,
             b"# two\ntrace 1 2\r\n1 write 0 g0\n0 read 0",
             TWO_ACTORS,
+        ),
+        (
+            SAME,
+            b"trace 1 1\n0 write 0 x09\n0 age 0 1 0 150\n0 read 0\n0 drain 4\n0 read 0\n",
+            DRAINED,
+        ),
+        (
+            SAME,
+            b"trace 1 1\n0 write 5 x0102\n0 refresh 5\n0 refresh 4\n0 read 5\n",
+            REFRESHED,
         ),
     ];
     for (change, trace, want) in table {
@@ -181,10 +251,7 @@ fn trace(line: u64, fault: TraceFault) -> Status {
 // What isn't served: refused words, faults, and what isn't built. Nothing is written.
 #[test]
 fn what_is_not_served_writes_nothing(rt: HostRuntime) -> Result<(), Fail> {
-    let full =
-        b"trace 1 1\n0 write 0 x\n0 write 0 x\n0 write 0 x\n0 write 0 x\n0 write 0 x\n0 write 0 x\n\
-0 write 0 x\n0 write 0 x\n0 write 0 x\n0 write 0 x\n0 write 0 x\n0 write 0 x\n0 write 0 x\n";
-    let table: [(&str, (usize, u8), &[u8], u64, Status); 13] = [
+    let table: [(&str, (usize, u8), &[u8], u64, Status); 11] = [
         ("save", SAME, TRACE, 0, Status::Words),
         ("", SAME, TRACE, 0, Status::Words),
         ("run", SAME, TRACE, 1, Status::ReadFault),
@@ -208,8 +275,6 @@ fn what_is_not_served_writes_nothing(rt: HostRuntime) -> Result<(), Fail> {
         ),
         ("run", (92, 1), b"", 0, Status::NotBuilt),
         ("run", (49, 0x80), TRACE, 0, image(48, ImageFault::Range)),
-        ("run", SAME, b"trace 1 1\n0 drain 1\n", 0, Status::NotBuilt),
-        ("run", SAME, full, 0, Status::NotBuilt),
     ];
     for (word, change, trace, reads, want) in table {
         let (status, output) = outcome(rt.alloc(), word, change, trace, reads, 99, 4096)?;
