@@ -3,9 +3,9 @@
 plain simulation.
 
 The simulation (`checks/simulation`) is written from the formats and rules of docs/, and shares nothing with
-the program: it reads images of both versions and traces with their first faults, and serves writes, reads,
-trims and ageing on a blank drive, with the noise of its cells, its weak blocks, the decoder of each codeword
-of a page, read retry and the limit of a history. It is itself compared with worked examples.
+the program: it reads images of both versions and traces with their first faults, and serves every call on a
+blank drive, with the noise of its cells, its weak blocks, the decoder of each codeword of a page, read retry,
+rounds of collection, the queue of hints and the limit of a history. It is itself compared with worked examples.
 
 usage: served.py PROGRAM        (prints what differs; exits 0 where nothing does, 1 otherwise)
 """
@@ -61,7 +61,15 @@ NEEDED_OF_SEVERAL = [
 NEEDED_ONCE = [
     "hints pushed", "hints dropped", "history limit", "a program of a page answers FAIL",
     "a program of a parity answers FAIL", "a write is tried three times", "a page of a bad superblock is read",
-    "a write is refused as full", "a write has to make room",
+    "a write is refused as full", "a write is refused as readonly", "a write has to make room",
+    "a page is copied", "a page is condemned", "a copy answers FAIL", "a page of a worn channel stays",
+    "a collect is idle", "a lost row is read",
+    "hints taken", "a hint is pushed after one was taken", "a hint is pushed after one was dropped",
+    "a drain takes all hints that it may, and leaves some", "a drain finds fewer hints than it may take",
+    "a drain finds no hint", "a drain meets the limit at its first refresh",
+    "a drain meets the limit after a refresh", "an empty row is refreshed", "a lost row is refreshed",
+    "a page is refreshed: moved", "a page is refreshed: uncorrectable", "a page is refreshed: noroom",
+    "a page is refreshed: readonly", "a page is refreshed: failed",
 ]
 
 # Whole traces, wrong or at the edge of being so.
@@ -83,8 +91,10 @@ LINES = [
     "0 read " + "9" * 26 + "\n", "0 read " + "9" * 9999, "9" * 26 + " read 1\n", "9" * 9999 + " read 1",
     "0 write 1 x\n" * 12, "0 write 1 x\n" * 13,
     "#" + "x" * 39999 + "\n0 read 1\n", "#" + "x" * 40000 + "\n0 read 1\n",
-    # More hints than the queue holds.
+    # More hints than the queue holds; and as it is taken from and filled again.
     "0 write 0 x09\n0 age 0 1 0 150\n" + "0 read 0\n" * 259,
+    "0 write 0 x09\n0 write 1 x08\n0 age 0 1 0 150\n0 age 0 2 0 150\n" + "0 read 0\n" * 255 + "0 read 1\n" * 3
+    + "0 drain 1\n" + "0 read 1\n" * 2 + "0 drain 16\n" * 17,
 ]
 
 
@@ -150,8 +160,8 @@ class Check:
 
     def random_drives(self):
         rng = random.Random(20261201)
-        plain = ["write", "write", "read", "read", "trim"]
-        aging = ["write"] * 3 + ["read"] * 5 + ["trim", "age", "age"]
+        plain = ["write"] * 4 + ["read"] * 3 + ["trim", "collect"]
+        aging = ["write"] * 6 + ["read"] * 6 + ["trim", "age", "age", "collect"]
         losing = ["write"] + ["read"] * 6 + ["age"] * 2
         tearing = ["write"] * 2 + ["read"] * 3 + ["age"]
         kinds = [
@@ -179,13 +189,40 @@ class Check:
                 given = made_inputs.damaged(rng, given)
             self.expect_simulated(f"weak input {n}", given)
 
+    def collections(self):
+        rng = random.Random(20261203)
+        images = [made_inputs.quiet_image, made_inputs.weak_image, made_inputs.unchecked_image]
+        for n in range(60):
+            image = images[n % len(images)](rng, CODEWORDS[n // len(images) % len(CODEWORDS)])
+            self.expect_simulated(f"collected input {n}", image + made_inputs.collecting_trace(rng, image))
+
+    def refreshes(self):
+        """Drives on which reads ask for refreshes, with drains between them and refreshes that a trace asks for."""
+        rng = random.Random(20261204)
+        aging = ["write"] * 4 + ["read"] * 6 + ["age"] * 2 + ["drain"] * 2 + ["refresh", "trim"]
+        for n in range(150):
+            image_of = rng.choice([made_inputs.noisy_image, made_inputs.lossy_image, made_inputs.torn_image])
+            image = image_of(rng, CODEWORDS[n % len(CODEWORDS)])
+            given = image + made_inputs.trace(rng, image, rng.choice([15, 30]), aging)
+            if n % 5 == 4:
+                given = made_inputs.damaged(rng, given)
+            self.expect_simulated(f"refreshed input {n}", given)
+        for n in range(60):
+            image_of = rng.choice([made_inputs.weak_image, made_inputs.unchecked_image])
+            image = image_of(rng, CODEWORDS[n % len(CODEWORDS)])
+            lines = made_inputs.refreshing_trace(rng, image)
+            self.expect_simulated(f"input {n} refreshed while room is made", image + lines)
+
     def long_histories(self):
-        """A history that fills up to its last entry, and one whose last look is one entry too late."""
+        """A history that fills up to its last entry, one whose last look is one entry too late, and two that end in a
+        drain: before its first refresh, and after that."""
         empty, lost = ["1 read 9"], ["0 read 0"]
         others = ["1 trim 3"] * 224 + ["1 write 3 x", "1 age 0 2 0 7", "1 write 4 x", "1 trim 3"]
         full = made_inputs.long_history(empty * 10 + lost + others)
         self.expect_simulated("a full history", full)
         self.expect_simulated("a look too late", made_inputs.long_history(empty * 12 + others))
+        self.expect_simulated("a drain too late", made_inputs.long_history(empty * 11 + ["1 drain 2"]))
+        self.expect_simulated("a drain that is cut", made_inputs.long_history(empty * 10 + ["1 drain 2"] + others))
 
     def words_and_devices(self):
         example = (top / "crates/ssd/stdin").read_bytes()
@@ -205,6 +242,8 @@ check.two_codewords()
 check.tables()
 check.random_drives()
 check.weak_drives()
+check.collections()
+check.refreshes()
 check.long_histories()
 check.words_and_devices()
 check.wrong += [f"never came up: {what}" for what in NEEDED_ONCE if not check.events[what]]

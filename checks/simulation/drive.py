@@ -18,10 +18,6 @@ def soft_values(senses, count):
     return [SOFT_VALUES[5 - sum([sense >> i & 1 for sense in senses])] for i in range(count)]
 
 
-class NoRoom(Exception):
-    """A write that has to make room."""
-
-
 class HistoryLimit(Exception):
     """A step that found no room in the history of a channel."""
 
@@ -31,16 +27,17 @@ class HistoryLimit(Exception):
 
 
 class Cells:
-    """The cell levels of a channel's programmed pages, each under its place: die, superblock, page."""
+    """The cell levels of a channel's programmed pages, each under its place: die, superblock, page; and how often
+    each superblock was erased."""
 
     def __init__(self, head, channel):
-        self.head, self.channel, self.levels = head, channel, {}
+        self.head, self.channel, self.levels, self.erases = head, channel, {}, Counter()
         self.count = head.words * head.lifting * head.column_count
 
     def program(self, place, word):
         head, (die, sb, page) = self.head, place
         number = ((self.channel * head.dies + die) * head.superblocks + sb) * head.pages + page
-        noise = words_of((head.seed + number * 2 ** 32) % 2 ** 64)
+        noise = words_of((head.seed + number * 2 ** 32 + self.erases[sb]) % 2 ** 64)
         levels = []
         while len(levels) < self.count:
             four = next(noise)
@@ -55,6 +52,11 @@ class Cells:
         for place, levels in self.levels.items():
             if place[:2] == (die, sb):
                 levels[:] = [max(erased, g - amount) if g > erased else g for g in levels]
+
+    def erase(self, sb):
+        self.erases[sb] += 1
+        for place in [place for place in self.levels if place[1] == sb]:
+            del self.levels[place]
 
     def sense(self, place, level):
         return int("".join(["1" if g < level else "0" for g in reversed(self.levels[place])]), 2)
@@ -174,10 +176,9 @@ class Channel:
         self.lines, self.kinds = [], Counter()
         self.rows = {}
         self.free, self.frontier, self.used = head.good(number), None, Counter()
-        self.sealed, self.stripe_sum = [], 0
-        # Nothing is erased, so a block that is weak from a later erase on never answers FAIL.
-        self.weak = {(die, sb) for owner, die, sb, erases in head.weak
-                     if owner == number and erases == 0}
+        self.sealed, self.stripe_sum, self.victim = [], 0, None
+        # A row without an entry is empty, and one with None is lost.
+        self.weak = {(die, sb): erases for owner, die, sb, erases in head.weak if owner == number}
         self.ladders = {}
 
     def add(self, tag, kind, text):
@@ -205,58 +206,66 @@ class Channel:
     def has_room(self):
         return len(self.free) >= (1 if self.frontier is not None else 2)
 
-    def has_garbage(self):
-        live = Counter(sb for sb, _, _ in self.rows.values())
-        return any(live[sb] < self.head.slots for sb in self.sealed)
+    def live(self, sb):
+        """The rows of a superblock's live pages, in the order of their slots."""
+        live = [(page[1], row) for row, page in self.rows.items() if page is not None and page[0] == sb]
+        return [row for _, row in sorted(live)]
 
-    def refuse(self, tag, row):
-        """Refuses a write that finds no room. There is no victim, so the channel is worn where no superblock is
-        free, and full where one is and no sealed one has garbage."""
-        if not self.free:
-            state = "readonly"
-        elif not self.has_garbage():
-            state = "full"
-        else:
-            self.events["a write has to make room"] += 1
-            raise NoRoom
-        self.events[f"a write is refused as {state}"] += 1
-        self.add(tag, "refused", f"{row} {state}")
-        return state
+    def garbage(self):
+        """The sealed superblocks that have garbage, each with how much."""
+        kept = {sb: self.head.slots - len(self.live(sb)) for sb in self.sealed}
+        return {sb: count for sb, count in kept.items() if count}
+
+    def is_worn(self):
+        left = 0 if self.frontier is None else self.head.slots - self.used[self.frontier]
+        return not self.free and (self.victim is None or left < len(self.live(self.victim)))
+
+    def refusal(self):
+        """How a write that finds no room is refused, or None where it has to make room."""
+        if self.is_worn():
+            return "readonly"
+        if self.free and self.victim is None and not self.garbage():
+            return "full"
+        return None
+
+    def is_weak(self, die, sb):
+        return self.cells.erases[sb] >= self.weak.get((die, sb), self.cells.erases[sb] + 1)
 
     def failed_die(self, sb, index, word):
         """Programs a word into a slot, and its stripe's sum after the last slot of that. Answers the die that
         answered FAIL, or None."""
         place, parity = self.place_of(sb, index)
-        if (place[0], sb) in self.weak:
+        if self.is_weak(place[0], sb):
             self.events["a program of a page answers FAIL"] += 1
             return place[0]
         self.cells.program(place, word)
         self.stripe_sum ^= word
         if (index + 1) % (self.head.dies - 1):
             return None
-        if (parity, sb) in self.weak:
+        if self.is_weak(parity, sb):
             self.events["a program of a parity answers FAIL"] += 1
             return parity
         self.cells.program((parity, *place[1:]), self.stripe_sum)
         self.stripe_sum = 0
         return None
 
-    def tried(self, tag, row, word):
+    def tried(self, tag, word, what, done):
         """Programs a word into the next slot, and answers it, or None where its superblock turned bad."""
         if self.frontier is None:
-            self.frontier = self.free.pop(0)
+            self.frontier = min(self.free, key=lambda sb: (self.cells.erases[sb], sb))
+            self.free.remove(self.frontier)
         sb, index = self.frontier, self.used[self.frontier]
         self.ladders.clear()
         die = self.failed_die(sb, index, word)
         if die is not None:
             self.frontier, self.stripe_sum = None, 0
-            self.add(tag, "bad", f"write {row} {sb}.{index} {die} fail")
+            self.add(tag, "bad", f"{what} {sb}.{index} {die} fail")
             return None
         self.used[sb] += 1
         if self.used[sb] == self.head.slots:
             self.sealed.append(sb)
             self.frontier = None
-        self.add(tag, "write", f"{row} {sb}.{index}")
+        self.add(tag, *done(f"{sb}.{index}"))
         return sb, index
 
     def write(self, tag, row, serial, data):
@@ -264,12 +273,98 @@ class Channel:
         slot, tries = None, 0
         while slot is None:
             self.need_room(1)
-            if not self.has_room():
-                return self.refuse(tag, row)
-            slot, tries = self.tried(tag, row, word), tries + 1
+            if self.has_room():
+                slot = self.tried(tag, word, f"write {row}", lambda slot: ("write", f"{row} {slot}"))
+                tries += 1
+                continue
+            state = self.refusal()
+            if state is not None:
+                self.events[f"a write is refused as {state}"] += 1
+                self.add(tag, "refused", f"{row} {state}")
+                return state
+            self.events["a write has to make room"] += 1
+            self.round(tag)
         self.events["a write is tried three times"] += tries == 3
         self.rows[row] = (*slot, serial)
         return "ok"
+
+    def round(self, tag):
+        """One round of collection: a victim is picked, or there is one; its live pages are copied out, and it is
+        erased. Answers the reply that an erase decides, or None."""
+        self.need_room(1)
+        garbage = self.garbage()
+        if self.victim is None and self.free and garbage:
+            self.victim = min(garbage, key=lambda sb: (-garbage[sb], sb))
+            self.sealed.remove(self.victim)
+            self.add(tag, "pick", self.victim)
+        if self.victim is None:
+            return None
+        self.need_room(LOOK_ENTRIES)
+        while self.live(self.victim):
+            if not self.copy(tag, self.live(self.victim)[0]):
+                return None
+            self.need_room(LOOK_ENTRIES)
+        return self.erase(tag)
+
+    def copy(self, tag, row):
+        """Copies a page out of the victim, and answers whether the round goes on."""
+        at = self.look(tag, row)
+        asks, _, page = self.ladder(row)
+        self.sensed(tag, at, asks)
+        goes_on = True
+        if page is None:
+            self.rows[row] = None
+            self.add(tag, "condemn", at)
+            self.events["a page is condemned"] += 1
+        else:
+            reply = self.moved(tag, at, row, page)
+            goes_on = reply in ("moved", "failed")
+            self.events["a page is copied"] += reply == "moved"
+            self.events["a copy answers FAIL"] += reply == "failed"
+            self.events["a page of a worn channel stays"] += not goes_on
+        self.add(tag, "leave", at)
+        return goes_on
+
+    def moved(self, tag, at, row, page):
+        """Copies a page that was found to the next slot, and answers the reply of a refresh. A page of the victim
+        may take any slot; another one only where a write finds room."""
+        sb, _, serial = self.rows[row]
+        has_room = self.has_room() if sb != self.victim else self.frontier is not None or len(self.free) > 0
+        if not has_room:
+            reply = "readonly" if self.is_worn() else "noroom"
+            self.add(tag, "stay", f"{at} {reply}")
+            return reply
+        slot = self.tried(tag, page, f"copy {at}", lambda slot: ("move", f"{at} {slot}"))
+        if slot is None:
+            return "failed"
+        self.rows[row] = (*slot, serial)
+        return "moved"
+
+    def erase(self, tag):
+        sb, self.victim = self.victim, None
+        self.ladders.clear()
+        weak = [die for die in range(self.head.dies) if self.is_weak(die, sb)]
+        if weak:
+            self.add(tag, "bad", f"erase {sb} {weak[0]} fail")
+            return f"retired {sb}"
+        self.cells.erase(sb)
+        self.used[sb] = 0
+        self.free.append(sb)
+        self.add(tag, "erase", sb)
+        return f"collected {sb}"
+
+    def collect(self, tag):
+        while True:
+            reply = self.round(tag)
+            if reply is not None:
+                return reply
+            self.need_room(1)
+            live = 0 if self.victim is None else len(self.live(self.victim))
+            victim, garbage = "-" if self.victim is None else self.victim, len(self.garbage())
+            self.add(tag, "note", f"{len(self.free)} {victim} {live} 0 {garbage}")
+            if live or (self.victim is None and not (garbage and self.free)):
+                self.events["a collect is idle"] += 1
+                return "idle"
 
     def trim(self, tag, row):
         self.need_room(1)
@@ -285,24 +380,61 @@ class Channel:
         return "ok"
 
     def read(self, tag, row):
+        missing = self.looked_in_vain(tag, row)
+        if missing is not None:
+            self.events["a lost row is read"] += missing == "uncorrectable"
+            return missing
+        sb, _, _ = self.rows[row]
+        # A superblock with a used slot is sealed, the frontier, the victim or bad.
+        self.events["a page of a bad superblock is read"] += sb not in [*self.sealed, self.frontier, self.victim]
+        at = self.look(tag, row)
+        asks, reply, _ = self.ladder(row)
+        self.sensed(tag, at, asks)
+        self.add(tag, "leave", at)
+        return reply
+
+    def refresh(self, tag, row):
+        """Copies the page of a row to a new slot. One that isn't recovered stays where it is."""
+        reply = self.looked_in_vain(tag, row)
+        if reply is not None:
+            self.events["a lost row is refreshed"] += reply == "uncorrectable"
+            self.events["an empty row is refreshed"] += reply == "empty"
+            return reply
+        at = self.look(tag, row)
+        asks, reply, page = self.ladder(row)
+        self.sensed(tag, at, asks)
+        if page is not None:
+            reply = self.moved(tag, at, row, page)
+        self.add(tag, "leave", at)
+        self.events[f"a page is refreshed: {reply}"] += 1
+        return reply
+
+    def looked_in_vain(self, tag, row):
+        """Looks at a row that has no page, and answers the reply; or None where the row has one."""
         self.need_room(LOOK_ENTRIES)
         if row not in self.rows:
             self.add(tag, "look", f"{row} empty")
             return "empty"
+        if self.rows[row] is None:
+            self.add(tag, "look", f"{row} lost")
+            return "uncorrectable"
+        return None
+
+    def look(self, tag, row):
+        """Looks at a row's page, and answers where the look began."""
         at, (sb, index, serial) = len(self.lines), self.rows[row]
         state = "closed" if self.is_closed(sb, index) else "open"
-        # A superblock with a used slot is sealed, the frontier or bad.
-        self.events["a page of a bad superblock is read"] += sb not in [*self.sealed, self.frontier]
         self.add(tag, "look", f"{row} page {sb}.{index} {serial} {state}")
-        asks, reply = self.ladder(row)
+        return at
+
+    def sensed(self, tag, at, asks):
         self.kinds["sense"] += len(asks)
         first = len(self.lines)
         self.lines += [f"{n} {tag} sense {at} {ask}\n" for n, ask in enumerate(asks, first)]
-        self.add(tag, "leave", at)
-        return reply
 
     def ladder(self, row):
-        """The senses and the reply of a read. Until the next write or ageing they stay the same."""
+        """The senses, the reply of a read, and the page that was found. Until the next program, erase or ageing they
+        stay the same."""
         if row not in self.ladders:
             sb, index, serial = self.rows[row]
             ladder = Ladder(self.head, self.pages, self.cells, self.events)
@@ -319,9 +451,10 @@ class Channel:
 
             place, _ = self.place_of(sb, index)
             found = ladder.recovered(place, is_the_page, self.is_closed(sb, index))
-            reply = "uncorrectable"
+            reply, page = "uncorrectable", None
             if found is not None:
+                page = found[1]
                 reply = f"data {found[0]} {self.pages.payload_of(found[1])[16:end].hex()}"
             asks = [f"{die}.{block}.{page} {level}" for (die, block, page), level in ladder.asks]
-            self.ladders[row] = asks, reply
+            self.ladders[row] = asks, reply, page
         return self.ladders[row]

@@ -152,7 +152,7 @@ class Call:
 
     def __init__(self, actor, verb):
         self.actor, self.verb = actor, verb
-        self.page = self.data = self.channel = self.die = self.superblock = self.amount = None
+        self.page = self.data = self.channel = self.die = self.superblock = self.amount = self.count = None
 
 
 def is_number(text):
@@ -206,7 +206,7 @@ def call_of(head, actor, words, line):
     if verb == b"write":
         call.data = data_of(arguments[1], line, head.data_bytes)
     if verb == b"drain":
-        in_range(arguments[0], line, 1, 16)
+        call.count = in_range(arguments[0], line, 1, 16)
     if verb in (b"collect", b"age"):
         call.channel = in_range(arguments[0], line, 0, head.channels - 1)
     if verb == b"age":

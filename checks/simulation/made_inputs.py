@@ -210,6 +210,10 @@ def trace(rng, image, calls, verbs):
             words = f"{rng.randrange(head.channels)} {die} {sb} {amount(rng, head)}"
         elif verb == "write":
             words = f"{page} {written(rng, head)}"
+        elif verb == "collect":
+            words = rng.randrange(head.channels)
+        elif verb == "drain":
+            words = rng.choice([1, 2, 4, 16])
         else:
             words = page
         lines.append(f"{rng.randrange(actors)} {verb} {words}")
@@ -228,6 +232,42 @@ def filling_trace(rng, image):
         lines += [f"1 read {rng.choice(pages)}" for _ in range(rng.choice([0, 0, 1]))]
         lines += [f"1 trim {rng.choice(pages)}" for _ in range(rng.random() < 0.01)]
     lines += [f"1 read {page}" for page in rng.sample(pages, 3)]
+    return text_of(rng, lines)
+
+
+def collecting_trace(rng, image):
+    """A trace that writes the pages of an image again and again, so that writes have to make room, with a few reads,
+    trims, ageings and collects between."""
+    head = Head(image)
+    pages = list(range(head.channels * head.rows))
+    lines = ["trace 1 2"]
+    for page in rng.choices(pages, k=rng.randint(1, 4) * head.channels * head.superblocks * head.slots // 2):
+        lines.append(f"0 write {page} {written(rng, head)}")
+        lines += [f"1 read {rng.choice(pages)}" for _ in range(rng.random() < 0.1)]
+        lines += [f"1 trim {rng.choice(pages)}" for _ in range(rng.random() < 0.1)]
+        lines += [f"1 collect {rng.randrange(head.channels)}" for _ in range(rng.random() < 0.05)]
+        lines += [f"1 age {rng.randrange(head.channels)} {rng.randrange(head.dies)} {rng.randrange(head.superblocks)}"
+                  f" {amount(rng, head)}" for _ in range(rng.random() < 0.05)]
+    lines += [f"1 read {page}" for page in rng.sample(pages, min(len(pages), 4))]
+    return text_of(rng, lines)
+
+
+def refreshing_trace(rng, image):
+    """A trace that writes the pages of an image again and again, with refreshes, reads of aged pages and drains
+    between."""
+    head = Head(image)
+    pages = list(range(head.channels * head.rows))
+    lines = ["trace 1 2"]
+    for page in pages + rng.choices(pages, k=rng.randint(0, head.channels * head.superblocks * head.slots)):
+        lines.append(f"0 write {page} {written(rng, head)}")
+        lines += [f"1 refresh {rng.choice(pages)}" for _ in range(rng.random() < 0.3)]
+        lines += [f"1 trim {rng.choice(pages)}" for _ in range(rng.random() < 0.02)]
+        if rng.random() < 0.1:
+            die, sb = rng.randrange(head.dies), rng.randrange(head.superblocks)
+            lines.append(f"1 age {rng.randrange(head.channels)} {die} {sb} {amount(rng, head)}")
+            lines += [f"1 read {page}" for page in rng.choices(pages, k=3)] + [f"1 drain {rng.randint(1, 4)}"]
+    lines += [f"1 refresh {page}" for page in rng.sample(pages, min(len(pages), 4))]
+    lines += [f"1 read {page}" for page in rng.sample(pages, min(len(pages), 4))]
     return text_of(rng, lines)
 
 

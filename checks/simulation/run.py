@@ -1,16 +1,12 @@
 """What `ssd run` gives for an input: its status, its output and its text on standard error."""
-from collections import Counter
+from collections import Counter, deque
 
 from .code import Code, Pages
-from .drive import Channel, HistoryLimit, NoRoom
+from .drive import Channel, HistoryLimit
 from .inputs import Head, Stop, read_trace
 
 HISTORY_LIMIT = 2 ** 22
 HINTS = 256
-
-
-def not_built():
-    raise Stop(10, "not built\n")
 
 
 class Run:
@@ -23,15 +19,21 @@ class Run:
         self.channels = [Channel(head, pages, n, HISTORY_LIMIT, events) for n in numbers]
         self.replies = [[] for _ in range(actors)]
         self.writes, self.reads, self.rungs, self.trims = Counter(), Counter(), Counter(), 0
-        self.pushed = self.dropped = 0
+        self.hints, self.pushed, self.dropped, self.taken = deque(), 0, 0, 0
 
     def serve(self, call):
         number = len(self.replies[call.actor])
         tag, head = f"{call.actor}.{number}", self.head
         if call.verb == b"age":
             reply = self.channels[call.channel].age(tag, call.die, call.superblock, call.amount)
+        elif call.verb == b"collect":
+            reply = self.channels[call.channel].collect(tag)
+        elif call.verb == b"drain":
+            reply = self.drain(tag, call.count)
+        elif call.verb == b"refresh":
+            reply = self.refresh(tag, call.page)
         else:
-            channel, row = self.channels[call.page % head.channels], call.page // head.channels
+            channel, row = self.place_of(call.page)
             if call.verb == b"write":
                 serial = head.session * 2 ** 40 + call.actor * 2 ** 32 + number
                 reply = channel.write(tag, row, serial, call.data)
@@ -41,19 +43,51 @@ class Run:
                 self.trims += 1
             else:
                 reply = channel.read(tag, row)
-                self.count_read(reply)
+                self.count_read(call.page, reply)
         self.replies[call.actor].append(reply)
 
-    def count_read(self, reply):
+    def place_of(self, page):
+        """The channel and the row of a page."""
+        return self.channels[page % self.head.channels], page // self.head.channels
+
+    def count_read(self, page, reply):
         words = reply.split()
         self.reads[words[0]] += 1
         if words[0] == "data":
             self.rungs[int(words[1])] += 1
-            # Nobody takes hints yet, so the queue has all that were pushed.
-            if words[1] != "0" and self.pushed < HINTS:
-                self.pushed += 1
-            elif words[1] != "0":
-                self.dropped += 1
+            if words[1] != "0":
+                self.hint(page)
+
+    def hint(self, page):
+        """Puts a page behind those that wait, where there is room."""
+        if len(self.hints) == HINTS:
+            self.dropped += 1
+            return
+        self.hints.append(page)
+        self.pushed += 1
+        self.events["a hint is pushed after one was taken"] += self.taken > 0
+        self.events["a hint is pushed after one was dropped"] += self.dropped > 0
+
+    def refresh(self, tag, page):
+        channel, row = self.place_of(page)
+        return channel.refresh(tag, row)
+
+    def drain(self, tag, count):
+        """Takes hints, one after the other, and refreshes the page of each before the next is taken."""
+        waited, drained = len(self.hints), []
+        while self.hints and len(drained) < count:
+            page = self.hints.popleft()
+            try:
+                drained.append(f"{page}={self.refresh(tag, page)}")
+            except HistoryLimit:
+                self.events["a drain meets the limit after a refresh"] += len(drained) > 0
+                self.events["a drain meets the limit at its first refresh"] += not drained
+                raise
+        self.taken += len(drained)
+        self.events["a drain takes all hints that it may, and leaves some"] += len(drained) == count < waited
+        self.events["a drain finds fewer hints than it may take"] += 0 < len(drained) < count
+        self.events["a drain finds no hint"] += not drained
+        return " ".join([f"drained {len(drained)}", *drained])
 
     def text(self):
         pieces = []
@@ -69,13 +103,14 @@ class Run:
         senses = sum(channel.kinds["sense"] for channel in self.channels)
         rungs = " ".join(str(self.rungs[rung]) for rung in range(len(self.head.read_levels) + 2))
         reads, writes = self.reads, self.writes
-        bad = sum(channel.kinds["bad"] for channel in self.channels)
+        kinds = sum([channel.kinds for channel in self.channels], Counter())
         return (
             f"summary\nwrite {writes['ok']} {writes['full']} {writes['readonly']} 0\n"
             f"read {reads['data']} {reads['empty']} {reads['uncorrectable']} 0\n"
-            f"trim {self.trims}\nmove 0 condemn 0 changed 0 stay 0\n"
-            f"pick 0 erase 0 bad {bad} fault 0\n"
-            f"sense {senses}\nrung {rungs}\nhint {self.pushed} {self.dropped} 0\nend\n"
+            f"trim {self.trims}\n"
+            f"move {kinds['move']} condemn {kinds['condemn']} changed 0 stay {kinds['stay']}\n"
+            f"pick {kinds['pick']} erase {kinds['erase']} bad {kinds['bad']} fault 0\n"
+            f"sense {senses}\nrung {rungs}\nhint {self.pushed} {self.dropped} {self.taken}\nend\n"
         )
 
 
@@ -84,10 +119,8 @@ def simulated(data, events):
     try:
         head = Head(data)
         if head.full:
-            not_built()
+            raise Stop(10, "not built\n")
         actors, calls = read_trace(head, data[head.size:])
-        if any(call.verb in (b"refresh", b"collect", b"drain") for call in calls):
-            not_built()
     except Stop as stop:
         return stop.status, "", stop.text
     run = Run(head, actors, events)
@@ -97,9 +130,8 @@ def simulated(data, events):
     except HistoryLimit as stop:
         events["history limit"] += 1
         return 7, run.text(), f"history limit on channel {stop.channel} at {stop.length}\n"
-    except NoRoom:
-        return 10, "", "not built\n"
     finally:
         events["hints pushed"] += run.pushed
         events["hints dropped"] += run.dropped
+        events["hints taken"] += run.taken
     return 0, run.text(), ""

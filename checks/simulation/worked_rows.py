@@ -49,14 +49,16 @@ def numbered(name, lines):
 
 
 def text(entries, replies, writes="0 0 0 0", reads="0 0 0 0", trims=0, senses=0, rungs="0 0 0 0",
-         hints="0 0 0", bad=0):
-    """The output of a run with one actor; `entries` has a list for each channel."""
+         hints="0 0 0", bad=0, moves="0 0 0", picks=0, erases=0):
+    """The output of a run with one actor; `entries` has a list for each channel, and `moves` the counts of moves,
+    condemned pages and stays."""
     lines = []
     for channel, listed in enumerate(entries):
         lines += numbered(f"channel {channel}", listed)
     lines += numbered("actor 0", replies)
     lines += ["summary", f"write {writes}", f"read {reads}", f"trim {trims}"]
-    lines += ["move 0 condemn 0 changed 0 stay 0", f"pick 0 erase 0 bad {bad} fault 0"]
+    moved, condemned, stays = moves.split()
+    lines += [f"move {moved} condemn {condemned} changed 0 stay {stays}", f"pick {picks} erase {erases} bad {bad} fault 0"]
     lines += [f"sense {senses}", f"rung {rungs}", f"hint {hints}", "end"]
     return "".join(line + "\n" for line in lines)
 
@@ -105,6 +107,53 @@ TRACES = [
         writes="1 0 0 0", reads="0 0 1 0", senses=7), ""),
     ("a page out of range", trace("0 write 8 x00"), 4, "",
      "trace fault in line 2: range\n"),
+    ("a write makes room by a round",
+     trace(*[f"0 write {page} x00" for page in (0, 1, 2, 3, 4, 5, 6, 7, 0, 1, 2, 4, 5)]), 0, text(
+        [[*[f"0.{n} write {page} {n // 4}.{n % 4}" for n, page in enumerate((0, 1, 2, 3, 4, 5, 6, 7, 0, 1, 2, 4))],
+          "0.12 pick 0", "0.12 look 3 page 0.3 3 closed", *senses("0.12", 13, "2.0.1", 0), "0.12 move 13 3.0",
+          "0.12 leave 13", "0.12 erase 0", "0.12 write 5 3.1"]],
+        ["ok"] * 13, writes="13 0 0 0", senses=1, moves="1 0 0", picks=1, erases=1), ""),
+    ("a collect of a blank drive is idle", trace("0 collect 0"), 0, text(
+        [["0.0 note 4 - 0 0 0"]], ["idle"]), ""),
+    ("a collect erases the one superblock that has garbage",
+     trace(*["0 write 0 x00"] * 4, "0 write 1 x00", "0 collect 0"), 0, text(
+        [[*[f"0.{n} write 0 0.{n}" for n in range(4)], "0.4 write 1 1.0", "0.5 pick 0",
+          "0.5 look 0 page 0.3 3 closed", *senses("0.5", 6, "2.0.1", 0), "0.5 move 6 1.1", "0.5 leave 6",
+          "0.5 erase 0"]],
+        ["ok"] * 5 + ["collected 0"], writes="5 0 0 0", senses=1, moves="1 0 0", picks=1, erases=1), ""),
+    ("a drain refreshes the page that needed a second level",
+     trace("0 write 0 x09", "0 age 0 1 0 150", "0 read 0", "0 drain 4", "0 read 0"), 0, text(
+        [["0.0 write 0 0.0", "0.1 age 1.0 150",
+          "0.2 look 0 page 0.0 0 open", *senses("0.2", 2, "1.0.0", 0, -60), "0.2 leave 2",
+          "0.3 look 0 page 0.0 0 open", *senses("0.3", 6, "1.0.0", 0, -60), "0.3 move 6 0.1", "0.3 leave 6",
+          "0.4 look 0 page 0.1 0 closed", *senses("0.4", 11, "2.0.0", 0), "0.4 leave 11"]],
+        ["ok", "ok", "data 1 0900000000000000", "drained 1 0=moved", "data 0 0900000000000000"],
+        writes="1 0 0 0", reads="2 0 0 0", senses=5, rungs="1 1 0 0", hints="1 0 1", moves="1 0 0"), ""),
+    ("a drain takes no more hints than it may, the earliest first",
+     trace("0 write 0 x09", "0 write 1 x08", "0 age 0 1 0 150", "0 age 0 2 0 150",
+           "0 read 1", "0 read 0", "0 read 1", "0 drain 2", "0 drain 16", "0 drain 1"), 0, text(
+        [["0.0 write 0 0.0", "0.1 write 1 0.1", "0.2 age 1.0 150", "0.3 age 2.0 150",
+          "0.4 look 1 page 0.1 1 closed", *senses("0.4", 4, "2.0.0", 0, -60), "0.4 leave 4",
+          "0.5 look 0 page 0.0 0 closed", *senses("0.5", 8, "1.0.0", 0, -60), "0.5 leave 8",
+          "0.6 look 1 page 0.1 1 closed", *senses("0.6", 12, "2.0.0", 0, -60), "0.6 leave 12",
+          "0.7 look 1 page 0.1 1 closed", *senses("0.7", 16, "2.0.0", 0, -60), "0.7 move 16 0.2", "0.7 leave 16",
+          "0.7 look 0 page 0.0 0 closed", *senses("0.7", 21, "1.0.0", 0, -60), "0.7 move 21 0.3", "0.7 leave 21",
+          "0.8 look 1 page 0.2 1 closed", *senses("0.8", 26, "0.0.1", 0), "0.8 move 26 1.0", "0.8 leave 26"]],
+        ["ok"] * 4 + ["data 1 0800000000000000", "data 1 0900000000000000", "data 1 0800000000000000",
+                      "drained 2 1=moved 0=moved", "drained 1 1=moved", "drained 0"],
+        writes="2 0 0 0", reads="3 0 0 0", senses=11, rungs="0 3 0 0", hints="3 0 3", moves="3 0 0"), ""),
+    ("a page is refreshed, and so is a row without a page",
+     trace("0 write 5 x0102", "0 refresh 5", "0 refresh 4", "0 read 5"), 0, text(
+        [["0.0 write 5 0.0", "0.1 look 5 page 0.0 0 open", *senses("0.1", 1, "1.0.0", 0), "0.1 move 1 0.1",
+          "0.1 leave 1", "0.2 look 4 empty",
+          "0.3 look 5 page 0.1 0 closed", *senses("0.3", 6, "2.0.0", 0), "0.3 leave 6"]],
+        ["ok", "moved", "empty", "data 0 0102000000000000"],
+        writes="1 0 0 0", reads="1 0 0 0", senses=2, rungs="1 0 0 0", moves="1 0 0"), ""),
+    ("a page that isn't recovered stays where it is, and its refresh is no hint",
+     trace("0 write 0 x01", "0 age 0 1 0 200", "0 refresh 0", "0 drain 1"), 0, text(
+        [["0.0 write 0 0.0", "0.1 age 1.0 200", "0.2 look 0 page 0.0 0 open",
+          *senses("0.2", 2, "1.0.0", 0, -60, -20, -10, 0, 10, 20), "0.2 leave 2"]],
+        ["ok", "ok", "uncorrectable", "drained 0"], writes="1 0 0 0", senses=7), ""),
     ("the last page", trace("0 write 7 x00"), 0, text(
         [["0.0 write 7 0.0"]], ["ok"], writes="1 0 0 0"), ""),
 ]
@@ -119,8 +168,25 @@ WEAK_TRACES = [
           "0.9 look 3 page 0.3 3 closed", *senses("0.9", 10, "2.0.1", 0), "0.9 leave 10"]],
         ["ok"] * 8 + ["full", "data 0 0000000000000000"],
         writes="8 1 0 0", reads="1 0 0 0", senses=1, rungs="1 0 0 0", bad=1), ""),
-    ("a write has to make room after a weak block", [(0, 0, 2, 0), (0, 0, 3, 0)],
-     trace(*EIGHT_WRITES, "0 trim 1", "0 write 0 x01"), 10, "", "not built\n"),
+    ("a write finds a worn channel after copies", [(0, 0, 2, 0), (0, 0, 3, 0)],
+     trace(*EIGHT_WRITES, "0 write 0 x01", "0 trim 1", "0 write 0 x01", "0 read 3"), 0, text(
+        [[*EIGHT_WRITTEN, "0.8 bad write 0 2.0 0 fail", "0.8 refused 0 full", "0.9 trim 1", "0.10 pick 0",
+          "0.10 look 0 page 0.0 0 closed", *senses("0.10", 12, "1.0.0", 0), "0.10 move 12 3.0", "0.10 leave 12",
+          "0.10 look 2 page 0.2 2 closed", *senses("0.10", 16, "0.0.1", 0), "0.10 bad copy 16 3.1 0 fail",
+          "0.10 leave 16",
+          "0.10 look 2 page 0.2 2 closed", *senses("0.10", 20, "0.0.1", 0), "0.10 stay 20 readonly", "0.10 leave 20",
+          "0.10 refused 0 readonly",
+          "0.11 look 3 page 0.3 3 closed", *senses("0.11", 25, "2.0.1", 0), "0.11 leave 25"]],
+        ["ok"] * 8 + ["full", "ok", "readonly", "data 0 0000000000000000"],
+        writes="8 1 1 0", reads="1 0 0 0", trims=1, senses=4, rungs="1 0 0 0", bad=2, moves="1 0 1", picks=1), ""),
+    ("a refresh finds a weak block, and then no room", [(0, 0, 2, 0), (0, 0, 3, 0)],
+     trace(*EIGHT_WRITES, "0 refresh 0", "0 refresh 0", "0 read 0"), 0, text(
+        [[*EIGHT_WRITTEN, "0.8 look 0 page 0.0 0 closed", *senses("0.8", 8, "1.0.0", 0), "0.8 bad copy 8 2.0 0 fail",
+          "0.8 leave 8",
+          "0.9 look 0 page 0.0 0 closed", *senses("0.9", 12, "1.0.0", 0), "0.9 stay 12 noroom", "0.9 leave 12",
+          "0.10 look 0 page 0.0 0 closed", *senses("0.10", 16, "1.0.0", 0), "0.10 leave 16"]],
+        ["ok"] * 8 + ["failed", "noroom", "data 0 0000000000000000"],
+        writes="8 0 0 0", reads="1 0 0 0", senses=3, rungs="1 0 0 0", bad=1, moves="0 0 1"), ""),
     ("a parity's block is weak", [(0, 0, 0, 0)],
      trace("0 write 0 x01", "0 write 1 x02", "0 read 0", "0 read 1"), 0, text(
         [["0.0 write 0 0.0", "0.1 bad write 1 0.1 0 fail", "0.1 write 1 1.0",
