@@ -124,7 +124,7 @@ def _add_common(verb):
     verb.add_argument("--age-amount", type=limited(1, 16383), default=10, metavar="N",
                       help="by so much its levels fall, 1 to 16383 (10)")
     verb.add_argument("--without-collection", action="store_true",
-                      help="leave out writes that a blank drive takes only by collecting (ssd of today serves no others)")
+                      help="leave out writes that a blank drive takes only by collecting")
 
 
 def _add_import(verbs, name, help_text, description, parts_of):
