@@ -85,6 +85,16 @@ pub record IsBlankDie (plan : DiePlan) (die : DieState) : Type 0 where
   pub plan_is : die.plan ≡ Some plan
   pub blank : IsBlank plan die
 
+-- the plan of a die of a channel
+abbrev pub plan_of_die : ImageHead → ℕ → ℕ → DiePlan
+plan_of_die head channel die =
+    record { channel = channel; die = die; shape = head.shape; law = head.law; weak = head.weak }
+
+-- dies are those of a channel, mounted and blank
+pub record AreDiesOf (head : ImageHead) (channel : ℕ) (dies : List DieState) : Type 0 where
+  pub count_is : length dies ≡ head.shape.dies
+  pub each : (number : ℕ) (die : DieState) → slice_get dies number ≡ Some die → IsBlankDie (plan_of_die head channel number) die
+
 -- the dies of a drive stand first in a list, each mounted and blank
 pub record AreReady (head : ImageHead) (dies : List DieState) : Type 0 where
   pub enough : die_count head ≤ length dies

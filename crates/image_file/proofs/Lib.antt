@@ -1,10 +1,10 @@
-mod Fields
+pub mod Fields
 mod Filling
-mod FixedParts
+pub mod FixedParts
 mod HeadInParts
 mod HeadRanges
-mod LevelSteps
+pub mod LevelSteps
 mod ListRanges
-mod MatrixSteps
+pub mod MatrixSteps
 mod SizeRanges
 mod SpelledFields

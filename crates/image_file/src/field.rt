@@ -5,7 +5,7 @@ ghost use Rattle.ssd_formats.specs.Fields.{bytes_field, is_any, is_below, number
 ghost use Rattle.ssd_geo.specs.Limits.{is_signed_within, is_within};
 ghost use Rattle.image_file.specs.Gives.{is_any_signed, Reads};
 
-use crate::fill::fill;
+use crate::bytes::fill;
 use crate::stop::{ImageFault, ReadStop};
 use ssd_io::{Failed, Source};
 
@@ -37,7 +37,7 @@ pub fn read_bytes<S: Source>(
 
 /// The next byte.
 pub fn read_u8<S: Source>(input: &mut S, place: u64) -> Result<u8, ReadStop<ImageFault>>
-    requires { place < 2 ^ 62 }
+    requires { place < 2 ^ 63 }
     ensures { Reads (λ n. n) (S.left input.old) (S.left input.new) (S.faults input.old) (S.faults input.new) place (place + 1)
         result (number_field w8 is_any) }
 {
@@ -48,7 +48,7 @@ pub fn read_u8<S: Source>(input: &mut S, place: u64) -> Result<u8, ReadStop<Imag
 
 /// The next number of two bytes.
 pub fn read_u16<S: Source>(input: &mut S, place: u64) -> Result<u16, ReadStop<ImageFault>>
-    requires { place < 2 ^ 62 }
+    requires { place < 2 ^ 63 }
     ensures { Reads (λ n. n) (S.left input.old) (S.left input.new) (S.faults input.old) (S.faults input.new) place (place + 2)
         result (number_field w16 is_any) }
 {
@@ -59,7 +59,7 @@ pub fn read_u16<S: Source>(input: &mut S, place: u64) -> Result<u16, ReadStop<Im
 
 /// The next number of four bytes.
 pub fn read_u32<S: Source>(input: &mut S, place: u64) -> Result<u32, ReadStop<ImageFault>>
-    requires { place < 2 ^ 62 }
+    requires { place < 2 ^ 63 }
     ensures { Reads (λ n. n) (S.left input.old) (S.left input.new) (S.faults input.old) (S.faults input.new) place (place + 4)
         result (number_field w32 is_any) }
 {
@@ -70,7 +70,7 @@ pub fn read_u32<S: Source>(input: &mut S, place: u64) -> Result<u32, ReadStop<Im
 
 /// The next number of eight bytes.
 pub fn read_u64<S: Source>(input: &mut S, place: u64) -> Result<u64, ReadStop<ImageFault>>
-    requires { place < 2 ^ 62 }
+    requires { place < 2 ^ 63 }
     ensures { Reads (λ n. n) (S.left input.old) (S.left input.new) (S.faults input.old) (S.faults input.new) place (place + 8)
         result (number_field w64 is_any) }
 {
@@ -81,7 +81,7 @@ pub fn read_u64<S: Source>(input: &mut S, place: u64) -> Result<u64, ReadStop<Im
 
 /// The next number of two bytes with a sign.
 pub fn read_i16<S: Source>(input: &mut S, place: u64) -> Result<i16, ReadStop<ImageFault>>
-    requires { place < 2 ^ 62 }
+    requires { place < 2 ^ 63 }
     ensures { Reads (λ n. n) (S.left input.old) (S.left input.new) (S.faults input.old) (S.faults input.new) place (place + 2)
         result (signed_field is_any_signed) }
 {
@@ -98,7 +98,7 @@ pub fn u8_within<S: Source>(
     low: u8,
     high: u8,
 ) -> Result<u8, ReadStop<ImageFault>>
-    requires { place < 2 ^ 62 }
+    requires { place < 2 ^ 63 }
     ensures read { Reads (λ n. n) (S.left input.old) (S.left input.new) (S.faults input.old) (S.faults input.new) place (place + 1)
         result (number_field w8 (is_within low high)) }
     ensures range { IfOk result (λ n. (low ≤ n) × (n ≤ high)) }
@@ -116,7 +116,7 @@ pub fn u8_within<S: Source>(
 /// The next byte, which is below a bound.
 #[tactic(auto, using(crate::proofs::Fields::number_passes, crate::proofs::Fields::number_fails, crate::proofs::Fields::number_lacks))]
 pub fn u8_below<S: Source>(input: &mut S, place: u64, bound: u8) -> Result<u8, ReadStop<ImageFault>>
-    requires { place < 2 ^ 62 }
+    requires { place < 2 ^ 63 }
     ensures read { Reads (λ n. n) (S.left input.old) (S.left input.new) (S.faults input.old) (S.faults input.new) place (place + 1)
         result (number_field w8 (is_below bound)) }
     ensures range { IfOk result (λ n. n < bound) }
@@ -139,7 +139,7 @@ pub fn u16_within<S: Source>(
     low: u16,
     high: u16,
 ) -> Result<u16, ReadStop<ImageFault>>
-    requires { place < 2 ^ 62 }
+    requires { place < 2 ^ 63 }
     ensures read { Reads (λ n. n) (S.left input.old) (S.left input.new) (S.faults input.old) (S.faults input.new) place (place + 2)
         result (number_field w16 (is_within low high)) }
     ensures range { IfOk result (λ n. (low ≤ n) × (n ≤ high)) }
@@ -161,7 +161,7 @@ pub fn u16_below<S: Source>(
     place: u64,
     bound: u16,
 ) -> Result<u16, ReadStop<ImageFault>>
-    requires { place < 2 ^ 62 }
+    requires { place < 2 ^ 63 }
     ensures read { Reads (λ n. n) (S.left input.old) (S.left input.new) (S.faults input.old) (S.faults input.new) place (place + 2)
         result (number_field w16 (is_below bound)) }
     ensures range { IfOk result (λ n. n < bound) }
@@ -184,7 +184,7 @@ pub fn u32_within<S: Source>(
     low: u32,
     high: u32,
 ) -> Result<u32, ReadStop<ImageFault>>
-    requires { place < 2 ^ 62 }
+    requires { place < 2 ^ 63 }
     ensures read { Reads (λ n. n) (S.left input.old) (S.left input.new) (S.faults input.old) (S.faults input.new) place (place + 4)
         result (number_field w32 (is_within low high)) }
     ensures range { IfOk result (λ n. (low ≤ n) × (n ≤ high)) }
@@ -206,7 +206,7 @@ pub fn u32_below<S: Source>(
     place: u64,
     bound: u32,
 ) -> Result<u32, ReadStop<ImageFault>>
-    requires { place < 2 ^ 62 }
+    requires { place < 2 ^ 63 }
     ensures read { Reads (λ n. n) (S.left input.old) (S.left input.new) (S.faults input.old) (S.faults input.new) place (place + 4)
         result (number_field w32 (is_below bound)) }
     ensures range { IfOk result (λ n. n < bound) }
@@ -229,7 +229,7 @@ pub fn i16_within<S: Source>(
     low: i16,
     high: i16,
 ) -> Result<i16, ReadStop<ImageFault>>
-    requires { place < 2 ^ 62 }
+    requires { place < 2 ^ 63 }
     ensures read { Reads (λ n. n) (S.left input.old) (S.left input.new) (S.faults input.old) (S.faults input.new) place (place + 2)
         result (signed_field (is_signed_within low high)) }
     ensures range { IfOk result (λ n. IsTrue (is_signed_within low high n)) }

@@ -22,7 +22,7 @@ fn read_parts<S: Source>(alloc: Global, input: &mut S) -> Result<ImageHead, Read
     ensures read { ReadsUpTo head_of (λ head. head.place) (S.left input.old) (S.left input.new) (S.faults input.old) (S.faults input.new)
         0 result head_fields }
     ensures range { IfOk result (λ head. IsHead (head_of head)) }
-    ensures place { IfOk result (λ head. head.place < 2 ^ 62) }
+    ensures place { IfOk result (λ head. head.place < 2 ^ 60) }
 {
     let fixed = read_fixed(input)?;
     let levels = read_levels(alloc, input, fixed.place, fixed.levels)?;
@@ -52,7 +52,7 @@ pub fn read_head<S: Source>(alloc: Global, input: &mut S) -> Result<ImageHead, R
     ensures read { ReadsHead (S.left input.old) (S.left input.new) result }
     ensures cause { StopsWithCause (S.faults input.old) (S.faults input.new) result }
     ensures range { IfOk result (λ head. IsHead (head_of head)) }
-    ensures place { IfOk result (λ head. head.place < 2 ^ 62) }
+    ensures place { IfOk result (λ head. head.place < 2 ^ 60) }
 {
     read_parts(alloc, input)
 }

@@ -1,0 +1,2 @@
+pub mod BlankChannels
+pub mod ZeroWords
