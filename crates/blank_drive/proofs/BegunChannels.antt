@@ -10,7 +10,7 @@ use Rattle.std.proofs.lemmas.Option.{get_or_from_slice_get, slice_get-get_or, sl
 use Rattle.chan_dies.specs.DiesState.{blocks_in, die_at, no_die}
 use Rattle.chan_state.specs.ChannelState.{ChannelState}
 use Rattle.chan_state.specs.Starting.{HasBegun, IsDieOf, MayBegin, start_of}
-use Rattle.drive_dies.specs.Mounting.{AreReady, IsBlankDie, die_count, plan_in_drive}
+use Rattle.drive_dies.specs.Mounting.{AreDiesOf, AreReady, die_count, IsBlankDie, plan_in_drive, plan_of_die}
 use Rattle.final_dies.specs.FinalDies.{dies_of_channel}
 use Rattle.onfi_cmd.specs.DieState.{DieState}
 use Rattle.onfi_cmd.specs.declared.plan.DiePlan.{DiePlan}
@@ -21,9 +21,9 @@ use Rattle.ssd_geo.specs.declared.base.ChannelBase.{ChannelBase}
 use Rattle.ssd_geo.specs.declared.head.ImageHead.{ImageHead}
 use Rattle.ssd_geo.specs.declared.policy_view.PolicyView.{PolicyView}
 use Rattle.ssd_geo.specs.declared.shape.Shape.{Shape}
-use Rattle.blank_drive.proofs.BlankChannels.{cells_are}
+use Rattle.channel_base.proofs.BlankChannels.{cells_are}
 use Rattle.blank_drive.proofs.BlankStarts.{blank_is_start}
-use Rattle.blank_drive.specs.Begun.{AreBegun, AreDiesOf, IsBegun, plan_of_die}
+use Rattle.blank_drive.specs.Begun.{AreBegun, IsBegun}
 
 -- items that are each the same
 all_same : {A B : Type 0} (f : A → B) (xs : List A) (b : B) → ((k : ℕ) (x : A) → slice_get xs k ≡ Some x → f x ≡ b)

@@ -1,8 +1,6 @@
 pub mod BegunChannels
-pub mod BlankChannels
 pub mod BlankStarts
 pub mod HeadLaws
 pub mod MountedDrives
 pub mod RunStarts
 pub mod SameSizes
-pub mod ZeroWords

@@ -5,10 +5,8 @@ use Rattle.std.specs.List.{range_with_len}
 use Rattle.chan_dies.specs.DiesState.{blocks_in}
 use Rattle.chan_state.specs.ChannelState.{ChannelState, StandsFor}
 use Rattle.chan_state.specs.Starting.{HasBegun}
-use Rattle.drive_dies.specs.Mounting.{IsBlankDie}
 use Rattle.final_dies.specs.FinalDies.{dies_of_channel}
 use Rattle.onfi_cmd.specs.DieState.{DieState}
-use Rattle.onfi_cmd.specs.declared.plan.DiePlan.{DiePlan}
 use Rattle.run_laws.specs.HandedCounts.{handed_by_channel}
 use Rattle.run_laws.specs.Runs.{FaultCounts}
 use Rattle.run_laws.specs.Starts.{starts_of}
@@ -19,16 +17,6 @@ use Rattle.ssd_geo.specs.declared.base.ChannelBase.{ChannelBase}
 use Rattle.ssd_geo.specs.declared.head.ImageHead.{ImageHead}
 use Rattle.ssd_geo.specs.declared.policy_view.PolicyView.{PolicyView}
 use Rattle.ssd_geo.specs.declared.tag.Tag.{Tag}
-
--- the plan of a die of a channel
-abbrev pub plan_of_die : ImageHead → ℕ → ℕ → DiePlan
-plan_of_die head channel die =
-    record { channel = channel; die = die; shape = head.shape; law = head.law; weak = head.weak }
-
--- dies are those of a channel, mounted and blank
-pub record AreDiesOf (head : ImageHead) (channel : ℕ) (dies : List DieState) : Type 0 where
-  pub count_is : length dies ≡ head.shape.dies
-  pub each : (number : ℕ) (die : DieState) → slice_get dies number ≡ Some die → IsBlankDie (plan_of_die head channel number) die
 
 -- a channel has begun as the one of this number of a blank drive, with these dies and this view of its policy
 pub record IsBegun (head : Head) (limit number : ℕ) (dies : List DieState) (view : Option PolicyView) (channel : ChannelState)

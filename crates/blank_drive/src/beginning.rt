@@ -1,11 +1,11 @@
 ghost use Rattle.std.specs.Prelude.{◌≡◌, ◌<◌, ◌≤◌, ◌*◌, ◌^◌, IfOk, OnOk, drop, map, take, vec_len};
 ghost use Rattle.ssd_formats.specs.ImageHead.{IsHead, head_of};
-ghost use Rattle.drive_dies.specs.Mounting.{AllTell, AreReady, CountsMounts, die_count};
-ghost use Rattle.blank_drive.specs.Begun.{AreBegun, AreDiesOf, IsBegun, StandAtStarts};
+ghost use Rattle.drive_dies.specs.Mounting.{AllTell, AreDiesOf, AreReady, CountsMounts, die_count};
+ghost use Rattle.blank_drive.specs.Begun.{AreBegun, IsBegun, StandAtStarts};
 ghost use Rattle.final_dies.specs.FinalDies.{counts_of};
 
-use crate::base::blank_base;
 use chan_state::Channel;
+use channel_base::blank_base;
 use drive_dies::{MountStop, mount_dies, take_first};
 use onfi_cmd::Die;
 use ssd_geo::{ImageHead, Memory};

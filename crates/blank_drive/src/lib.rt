@@ -2,7 +2,6 @@
 //! dies and histories back at the end. It knows no call of a host.
 #![tactic(auto)]
 
-mod base;
 mod beginning;
 mod ending;
 

@@ -1,0 +1,4 @@
+pub mod MoreChannels
+pub mod MountedDies
+pub mod SavedChannels
+pub mod StartsOfRuns

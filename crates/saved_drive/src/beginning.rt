@@ -1,0 +1,57 @@
+ghost use Rattle.std.specs.Prelude.{◌≡◌, ◌≤◌, ◌^◌, List, IfOk, OnOk, drop, map, take, vec_len};
+ghost use Rattle.drive_dies.specs.Mounting.{die_count};
+ghost use Rattle.final_dies.specs.FinalDies.{counts_of};
+ghost use Rattle.ssd_formats.specs.ImageContents.{ChannelImage};
+ghost use Rattle.ssd_formats.specs.ImageHead.{IsHead, head_of};
+ghost use Rattle.saved_drive.specs.Begun.{HaveBegun, StandAtStarts};
+ghost use Rattle.saved_drive.specs.Contents.{AreMounted, AreOfImage, HaveImage};
+
+use chan_state::Channel;
+use drive_dies::take_first;
+use onfi_cmd::Die;
+use ssd_geo::{ChannelBase, ImageHead, Memory};
+use std::alloc::Global;
+use victim::Policy;
+
+/// The channels of a drive, with what its image tells of them: their bases, and their dies, into which the pages were loaded.
+/// They take their dies, which are the first of the list, and the first of the policies, in the order of the channels.
+pub fn begin_channels<D: Die, P: Policy>(
+    alloc: Global,
+    head: &ImageHead,
+    bases: Vec<ChannelBase>,
+    dies: &mut Vec<D>,
+    policies: Vec<P>,
+    limit: u32,
+) -> Result<Vec<Channel<D, P>>, Memory>
+    requires head { IsHead (head_of head.now) }
+    requires mounted { AreMounted head.now (map D.state dies.old.items) }
+    requires image { HaveImage (head_of head.now) bases.items (map D.state dies.old.items) }
+    requires policies { head.now.shape.channels ≤ vec_len policies }
+    requires limit_low { 256 ≤ limit }
+    requires limit_high { limit ≤ 2 ^ 22 }
+    ensures count { IfOk result (λ channels. vec_len channels ≡ head.now.shape.channels) }
+    ensures begun { IfOk result (λ channels. HaveBegun bases.items limit head.now.shape.dies (map D.state dies.old.items)
+        (map (λ policy. P.told policy) policies.items) (map (λ channel. channel.kept) channels.items)) }
+    // The image is any whose contents these bases and dies are of.
+    ensures starts { IfOk result (λ channels. (saved : List ChannelImage)
+        → AreOfImage (head_of head.now) saved bases.items (map D.state dies.old.items)
+        → StandAtStarts head.now saved limit (counts_of (map D.state dies.old.items))
+        (map (λ policy. P.told policy) policies.items) (map (λ channel. channel.kept) channels.items)) }
+    ensures views { IfOk result (λ channels. map (λ channel. P.told channel.policy) channels.items
+        ≡ take head.now.shape.channels (map (λ policy. P.told policy) policies.items)) }
+    ensures left { OnOk result (dies.new.items ≡ drop (die_count head.now) dies.old.items) }
+{
+    let mut bases = bases;
+    let mut policies = policies;
+    let mut channels = Vec::new(alloc);
+    for number in 0..head.shape.channels {
+        let own = take_first(alloc, dies, head.shape.dies as usize)?;
+        let base = bases.remove(0);
+        let policy = policies.remove(0);
+        let channel = Channel::start(alloc, base, own, policy, limit)?;
+        let Ok(()) = channels.push(channel) else {
+            return Err(Memory);
+        };
+    }
+    Ok(channels)
+}
