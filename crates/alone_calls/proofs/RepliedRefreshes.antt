@@ -2,7 +2,7 @@
 use Rattle.std.proofs.Common.{◌≡◌, ℕ, List, None, length, subst, ap, ◌∙◌}
 use Rattle.std.specs.Prelude.{Result, Ok, Err, IfOk}
 use Rattle.alone_calls.proofs.RepliedReads.{is_seen}
-use Rattle.alone_calls.specs.AloneCalls.{IfNoRoom, RepliesRefresh}
+use Rattle.alone_calls.specs.AloneCalls.{IfNoRoom, OnMemory, RepliesRefresh}
 use Rattle.chan_calls.specs.Caller.{CallerView, HasLookRoom}
 use Rattle.chan_calls.specs.Stepping.{Standing}
 use Rattle.chan_calls.specs.Workers.{MayCall, WorkerState}
@@ -29,6 +29,15 @@ module _ (worker : WorkerState) (old new : CallerView) (stood : Standing) (tag :
         told_is = looks.3 ∙ ap (length {A = Entry}) seen;
       }
   refresh_room may (Err StepStop.Memory) made = tt
+
+  -- nor was anything where memory was refused
+  pub refresh_stays : MayCall worker old stood → (result : Result RefreshReply StepStop) →
+      MakesRefresh worker old stood tag row new.seen result → OnMemory result (new.seen ≡ old.seen)
+  refresh_stays may (Ok reply) made = tt
+  refresh_stays may (Err (StepStop.HistoryFull told)) made = tt
+  refresh_stays may (Err StepStop.Memory) made =
+      let looks = made may.start may.contents may.works may.is_of may.stands_for in
+      looks.3 ∙ is_seen old tag alone old.seen looks.0 looks.1
 
   -- and it has its reply
   pub refresh_replies : RefreshesAloneAreRefreshes → (result : Result RefreshReply StepStop) →

@@ -11,7 +11,7 @@ use Rattle.chan_calls.specs.Workers.{MayCall, WorkerState}
 use Rattle.collector.proofs.AloneReplies.{collects_are_replied, writes_are_replied}
 use Rattle.collector.proofs.AloneRooms.{collects_find_room, writes_find_room}
 use Rattle.collector.proofs.AloneRounds.{collects_are_collects}
-use Rattle.collector.proofs.AloneStops.{collects_stop_as_cuts, writes_stop_as_cuts}
+use Rattle.collector.proofs.AloneStops.{collects_break_off, collects_stop_as_cuts, writes_break_off, writes_stop_as_cuts}
 use Rattle.collector.proofs.AloneWrites.{writes_are_writes}
 use Rattle.collector.specs.AloneReplies.{reply_to_collect, reply_to_write}
 use Rattle.collector.specs.Collects.{MakesCollect}
@@ -57,10 +57,13 @@ module _ (worker : WorkerState) (old new : CallerView) (stood stands : Standing)
             reply_is = replied.reply_is;
           }
 
-      -- or cut
+      -- or cut, or broken off
       pub write_stopped : (stop : StepStop) → WritesRow worker old stood tag row data_bytes new.seen (Err stop) →
           EndsWrite worker old new stood tag row data_bytes (Err stop)
-      write_stopped StepStop.Memory made start contents works is_of stands_for own = tt
+      write_stopped StepStop.Memory made start contents works is_of stands_for own =
+          writes_break_off copies_are start contents old tag row old.seen new.seen alone is_of.limit_is
+          (goes start contents works is_of stands_for own).0.is_past.is_lawful none
+          (made start contents works is_of stands_for own)
       write_stopped (StepStop.HistoryFull told) made start contents works is_of stands_for own =
           writes_stop_as_cuts copies_are start contents old tag row old.seen new.seen told alone is_of.limit_is
           (goes start contents works is_of stands_for own).0.is_past.is_lawful none
@@ -90,10 +93,12 @@ module _ (worker : WorkerState) (old new : CallerView) (stood stands : Standing)
           reply_is = replied.reply_is;
         }
 
-    -- or cut
+    -- or cut, or broken off
     pub collect_stopped : (stop : StepStop) → MakesCollect worker old stood tag new.seen (Err stop) →
         EndsCollect worker old new stood tag (Err stop)
-    collect_stopped StepStop.Memory made start contents works is_of stands_for = tt
+    collect_stopped StepStop.Memory made start contents works is_of stands_for =
+        collects_break_off copies_are start contents old tag old.seen new.seen alone is_of.limit_is
+        (goes start contents works is_of stands_for).0.is_past.is_lawful none (made start contents works is_of stands_for)
     collect_stopped (StepStop.HistoryFull told) made start contents works is_of stands_for =
         collects_stop_as_cuts copies_are start contents old tag old.seen new.seen told alone is_of.limit_is
         (goes start contents works is_of stands_for).0.is_past.is_lawful none (made start contents works is_of stands_for)

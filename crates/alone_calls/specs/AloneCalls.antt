@@ -1,6 +1,6 @@
 -- What comes of a call that a caller makes who is alone on a channel? It finds the past that it has seen. A write and a collect
--- come to their end with the rounds that they make, or are cut where the history has no room for their next entry. What the
--- channel stood for, with the data of the call, it goes on standing for.
+-- come to their end with the rounds that they make, or are cut where the history has no room for their next entry, or are broken
+-- off where memory is refused. What the channel stood for, with the data of the call, it goes on standing for.
 use Rattle.std.specs.Prelude.{ℕ, ◌≡◌, ◌⊎◌, true, List, length, Result, Ok, Err, ⊤}
 use Rattle.ssd_geo.specs.declared.reply.RefreshReply.{RefreshReply}
 use Rattle.ssd_geo.specs.declared.reply.Reply.{Reply}
@@ -14,7 +14,7 @@ use Rattle.chan_calls.specs.Caller.{CallerView, IsOf}
 use Rattle.chan_calls.specs.Stepping.{Standing}
 use Rattle.chan_calls.specs.Workers.{WorkerState, WorksFor}
 use Rattle.collector.specs.Emptying.{OfEach}
-use Rattle.collector.specs.Stops.{IsCutCollectAlone, IsCutWriteAlone}
+use Rattle.collector.specs.Stops.{IsBrokenOffCollectAlone, IsBrokenOffWriteAlone, IsCutCollectAlone, IsCutWriteAlone}
 use Rattle.collector.specs.Writes.{OfEachWith}
 
 -- each entry that a call made found room, where each entry before it did
@@ -22,12 +22,13 @@ abbrev pub FindsRoom : CallerView → CallerView → Type 0
 FindsRoom old new = found_room old.limit old.seen ≡ true → found_room old.limit new.seen ≡ true
 
 -- how a write of a row ended, for one start and contents: it was made whole and has a reply; or it was cut, since the history,
--- of the length that was told, had no room for its next entry
+-- of the length that was told, had no room for its next entry; or it was broken off
 abbrev pub EndsWriteFor : Start → List (Tag × List ℕ) → CallerView → CallerView → Tag → ℕ → Result Reply StepStop → Type 0
 EndsWriteFor start contents old new tag row (Ok reply) = HasWritten start contents tag row old.seen new.seen reply
 EndsWriteFor start contents old new tag row (Err (StepStop.HistoryFull told)) =
     IsCutWriteAlone start contents tag row told old.seen new.seen
-EndsWriteFor start contents old new tag row (Err StepStop.Memory) = ⊤
+EndsWriteFor start contents old new tag row (Err StepStop.Memory) =
+    IsBrokenOffWriteAlone start contents tag row old.seen new.seen
 
 abbrev pub EndsWrite : WorkerState → CallerView → CallerView → Standing → Tag → ℕ → List ℕ → Result Reply StepStop → Type 0
 EndsWrite worker old new stood tag row data_bytes result =
@@ -38,7 +39,8 @@ abbrev pub EndsCollectFor : Start → List (Tag × List ℕ) → CallerView → 
 EndsCollectFor start contents old new tag (Ok reply) = HasCollected start contents tag old.seen new.seen reply
 EndsCollectFor start contents old new tag (Err (StepStop.HistoryFull told)) =
     IsCutCollectAlone start contents tag told old.seen new.seen
-EndsCollectFor start contents old new tag (Err StepStop.Memory) = ⊤
+EndsCollectFor start contents old new tag (Err StepStop.Memory) =
+    IsBrokenOffCollectAlone start contents tag old.seen new.seen
 
 abbrev pub EndsCollect : WorkerState → CallerView → CallerView → Standing → Tag → Result Reply StepStop → Type 0
 EndsCollect worker old new stood tag result =
@@ -55,6 +57,12 @@ IfNoRoom old new has_room (Ok answer) = has_room
 IfNoRoom old new has_room (Err (StepStop.HistoryFull told)) = FindsNoRoom old new has_room told
 IfNoRoom old new has_room (Err StepStop.Memory) = ⊤
 
+-- this holds where memory was refused
+abbrev pub OnMemory : {A : Type 0} → Result A StepStop → Type 0 → Type 0
+OnMemory (Ok answer) fact = ⊤
+OnMemory (Err (StepStop.HistoryFull told)) fact = ⊤
+OnMemory (Err StepStop.Memory) fact = fact
+
 -- a read gave a reply, whatever the worker works for and the channel stood for
 abbrev pub RepliesRead : WorkerState → CallerView → CallerView → Standing → Tag → ℕ → Reply → Type 0
 RepliesRead worker old new stood tag row reply =
@@ -63,7 +71,12 @@ RepliesRead worker old new stood tag row reply =
     HasFoundNone tag row old.seen new.seen reply
     ⊎ (HasReadPage start contents tag row old.seen new.seen reply ⊎ HasFailedRead tag row old.seen new.seen reply)
 
--- and so a refresh
+-- memory was refused to a read before its look; or after its leave, so that it has a reply which wasn't given
+abbrev pub BreaksOffRead : WorkerState → CallerView → CallerView → Standing → Tag → ℕ → Type 0
+BreaksOffRead worker old new stood tag row =
+    (new.seen ≡ old.seen) ⊎ (reply : Reply) × RepliesRead worker old new stood tag row reply
+
+-- a refresh gave a reply so
 abbrev pub RepliesRefresh : WorkerState → CallerView → CallerView → Standing → Tag → ℕ → RefreshReply → Type 0
 RepliesRefresh worker old new stood tag row reply =
     OfEach worker old stood (λ start contents. WasRefreshed start contents tag row old.seen new.seen reply)

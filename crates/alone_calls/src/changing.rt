@@ -1,6 +1,6 @@
 // The calls that make one entry: a trim and an ageing.
 ghost use Rattle.std.specs.Prelude.{◌≡◌, ◌≤◌, ◌<◌, IfOk, None, OnOk};
-ghost use Rattle.alone_calls.specs.AloneCalls.{IfNoRoom};
+ghost use Rattle.alone_calls.specs.AloneCalls.{IfNoRoom, OnMemory};
 ghost use Rattle.chan_calls.specs.Caller.{HasStepRoom, SameCaller};
 ghost use Rattle.chan_calls.specs.Stepping.{GoesOn};
 ghost use Rattle.run_laws.specs.RepliedCalls.{HasAged};
@@ -18,6 +18,7 @@ pub fn trim<S: Steps>(steps: &mut S, tag: Tag, row: u32) -> Result<(), StepStop>
     ensures goes_on { GoesOn (S.view steps.old) (S.view steps.new) (S.stands steps.old) (S.stands steps.new) }
     ensures room { IfNoRoom (S.view steps.old) (S.view steps.new)
         (HasStepRoom (S.view steps.old).limit (S.view steps.old).seen) result }
+    ensures memory { OnMemory result ((S.view steps.new).seen ≡ (S.view steps.old).seen) }
     ensures ok { OnOk result ((S.view steps.new).seen ≡ after_trim tag row (S.view steps.old).seen) }
 {
     steps.trim(tag, row)
@@ -40,6 +41,7 @@ pub fn age<S: Steps>(
     ensures goes_on { GoesOn (S.view steps.old) (S.view steps.new) (S.stands steps.old) (S.stands steps.new) }
     ensures room { IfNoRoom (S.view steps.old) (S.view steps.new)
         (HasStepRoom (S.view steps.old).limit (S.view steps.old).seen) result }
+    ensures memory { OnMemory result ((S.view steps.new).seen ≡ (S.view steps.old).seen) }
     ensures ok { IfOk result (λ reply. HasAged tag die sb amount (S.view steps.old).seen (S.view steps.new).seen reply) }
 {
     match steps.age(tag, die, sb, amount) {

@@ -1,6 +1,6 @@
 // A read of a row, with its reply.
 ghost use Rattle.std.specs.Prelude.{◌≡◌, ◌<◌, IfOk, None};
-ghost use Rattle.alone_calls.specs.AloneCalls.{IfNoRoom, RepliesRead};
+ghost use Rattle.alone_calls.specs.AloneCalls.{BreaksOffRead, IfNoRoom, OnMemory, RepliesRead};
 ghost use Rattle.chan_calls.specs.Caller.{HasLookRoom, SameCaller};
 ghost use Rattle.chan_calls.specs.Calls.{GoesOnFor, reply_of};
 ghost use Rattle.chan_calls.specs.Workers.{MayCall};
@@ -44,6 +44,8 @@ pub fn read<S: Steps>(
         (S.view steps.old) (S.view steps.new) (S.stands steps.old) (S.stands steps.new) }
     ensures room { IfNoRoom (S.view steps.old) (S.view steps.new)
         (HasLookRoom (S.view steps.old).limit (S.view steps.old).seen) result }
+    ensures memory { OnMemory result
+        (BreaksOffRead worker.old (S.view steps.old) (S.view steps.new) (S.stands steps.old) tag row) }
     ensures ok { IfOk result (λ reply.
         RepliesRead worker.old (S.view steps.old) (S.view steps.new) (S.stands steps.old) tag row reply) }
 {

@@ -1,6 +1,6 @@
 // A refresh of a row, with its reply.
 ghost use Rattle.std.specs.Prelude.{◌≡◌, ◌<◌, IfOk, None};
-ghost use Rattle.alone_calls.specs.AloneCalls.{IfNoRoom, RepliesRefresh};
+ghost use Rattle.alone_calls.specs.AloneCalls.{IfNoRoom, OnMemory, RepliesRefresh};
 ghost use Rattle.chan_calls.specs.Caller.{HasLookRoom, SameCaller};
 ghost use Rattle.chan_calls.specs.Calls.{GoesOnFor};
 ghost use Rattle.chan_calls.specs.Workers.{MayCall};
@@ -25,6 +25,7 @@ pub fn refresh<S: Steps>(
         (S.view steps.old) (S.view steps.new) (S.stands steps.old) (S.stands steps.new) }
     ensures room { IfNoRoom (S.view steps.old) (S.view steps.new)
         (HasLookRoom (S.view steps.old).limit (S.view steps.old).seen) result }
+    ensures memory { OnMemory result ((S.view steps.new).seen ≡ (S.view steps.old).seen) }
     ensures ok { IfOk result (λ reply.
         RepliesRefresh worker.old (S.view steps.old) (S.view steps.new) (S.stands steps.old) tag row reply) }
 {

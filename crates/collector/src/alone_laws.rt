@@ -3,7 +3,7 @@
 ghost use Rattle.collector.specs.Alone.{CollectsAloneAreCollects, RoundsAloneAreRounds, WritesAloneAreWrites};
 ghost use Rattle.collector.specs.AloneReplies.{CollectsAloneAreReplied, RoundsAloneAreReplied, WritesAloneAreReplied};
 ghost use Rattle.collector.specs.Rooms.{CollectsAloneFindRoom, WritesAloneFindRoom};
-ghost use Rattle.collector.specs.Stops.{CollectsAloneStopAsCuts, WritesAloneStopAsCuts};
+ghost use Rattle.collector.specs.Stops.{CollectsAloneBreakOff, CollectsAloneStopAsCuts, WritesAloneBreakOff, WritesAloneStopAsCuts};
 
 use chan_calls::copies_alone_are_copies;
 
@@ -53,6 +53,20 @@ pub fn writes_alone_stop_as_cuts()
 /// So was such a collect.
 pub fn collects_alone_stop_as_cuts()
     ensures { CollectsAloneStopAsCuts }
+{
+    copies_alone_are_copies();
+}
+
+/// A write of a caller that is alone was broken off where memory was refused.
+pub fn writes_alone_break_off()
+    ensures { WritesAloneBreakOff }
+{
+    copies_alone_are_copies();
+}
+
+/// So was such a collect.
+pub fn collects_alone_break_off()
+    ensures { CollectsAloneBreakOff }
 {
     copies_alone_are_copies();
 }

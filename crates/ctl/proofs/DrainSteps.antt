@@ -7,6 +7,8 @@ use Rattle.std.proofs.lemmas.Option.{slice_get_within}
 use Rattle.chan_calls.specs.Workers.{WorkerState}
 use Rattle.ctl.proofs.StandingChannels.{keeps_itself}
 use Rattle.ctl.specs.Asked.{HintsFit, IsPageOf}
+use Rattle.ctl.specs.BrokenOff.{BreaksOffInDrain, is_refused, is_taken}
+use Rattle.ctl.specs.BrokenOff as broken
 use Rattle.ctl.specs.Draining.{Drains, HasDrained, HasStoppedInDrain, IsLeftOut, IsRefreshed, MayRefresh, OfEachStart, Refreshes}
 use Rattle.ctl.specs.Seen.{SeenChannel, pasts_of}
 use Rattle.ctl.specs.Served.{AreStanding, KeepRooms, KeepsRoom}
@@ -70,6 +72,19 @@ module _ (contents : List (Tag × List ℕ)) (starts : List Start) (tag : Tag) w
       (longer before (page, reply) count)
       (then_stops channel entries (suc count) after left front (goes_on refreshes none stopped))
 
+  then_breaks_off : {drained : List (ℕ × RefreshReply)} {pasts now : List (List Entry)} {hints rest : List ℕ}
+      (count : ℕ) (after : List (List Entry)) (left : List ℕ) → HasTaken contents starts tag drained pasts hints now rest →
+      BreaksOffInDrain contents starts tag count now rest after left →
+      BreaksOffInDrain contents starts tag (length drained + count) pasts hints after left
+  then_breaks_off count after left (has_begun {pasts = pasts} {hints = hints}) breaks =
+      let same : count ≡ 0 + count = omega arith in
+      subst (λ (n : ℕ). BreaksOffInDrain contents starts tag n pasts hints after left) same breaks
+  then_breaks_off count after left
+      (one_more {page = page} {reply = reply} {drained = before} {hints = hints} {pasts = pasts} front refreshes none) breaks =
+      subst (λ (n : ℕ). BreaksOffInDrain contents starts tag n pasts hints after left)
+      (longer before (page, reply) count)
+      (then_breaks_off (suc count) after left front (broken.goes_on refreshes none breaks))
+
 -- the rooms of histories that two calls keep one after the other are kept
 keeps_both : (old between new : SeenChannel) → KeepsRoom old between → KeepsRoom between new → KeepsRoom old new
 keeps_both old between new first second = record {
@@ -118,6 +133,11 @@ drain_begins worker channels hints tag = record {
   hints_fit = λ fit. fit;
   taken = λ starts contents standing. (standing, has_begun);
 }
+
+-- no memory for the reply of a drain: no hint was taken
+pub drain_is_not_begun : (worker : WorkerState) (channels : List SeenChannel) (hints : List ℕ) (tag : Tag) (count : ℕ) →
+    Drains worker channels channels hints hints tag count (Err ServeStop.Memory)
+drain_is_not_begun worker channels hints tag count = λ starts contents standing. (standing, is_refused)
 
 module _ (worker : WorkerState) (olds news : List SeenChannel) (hints waiting : List ℕ) (tag : Tag)
     (drained : List (ℕ × RefreshReply)) (so_far : DrainsSoFar worker olds news hints waiting tag drained) where
@@ -260,7 +280,16 @@ module _ (worker : WorkerState) (olds news : List SeenChannel) (hints waiting : 
         Refreshes worker news nexts tag page (Err stop) → Drains worker olds nexts hints rest tag count (Err stop)
     drain_is_refused nexts count low (ServeStop.HistoryFull channel entries) left_out =
         drain_stops nexts channel entries count low left_out
-    drain_is_refused nexts count low ServeStop.Memory left_out = tt
+    drain_is_refused nexts count low ServeStop.Memory refused = λ starts contents standing.
+        let stood = (so_far.taken starts contents standing).0 in
+        let whole : length drained + suc (count - length drained - 1) ≡ count = omega (arith, low) in (
+          (refused.stands starts contents stood).0,
+          subst (λ (past : List (List Entry)). BreaksOffInDrain contents starts tag count (pasts_of olds) hints past rest)
+              (sym refused.pasts_stay)
+              (subst (λ (n : ℕ). BreaksOffInDrain contents starts tag n (pasts_of olds) hints (pasts_of news) rest) whole
+              (then_breaks_off contents starts tag (suc (count - length drained - 1)) (pasts_of news) rest
+              (taken_here starts contents standing) is_taken)),
+        )
 
 -- the page of the next hint is one of the drive's, where channels are seen
 pub page_here : {X : Type 0} (see : X → SeenChannel) (channels : List X) (worker : WorkerState) (now : List X)

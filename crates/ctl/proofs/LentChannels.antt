@@ -1,8 +1,8 @@
 -- What does a call come to that a caller makes who is alone on a channel? The channel that was lent has what the call added.
-use Rattle.std.proofs.Common.{◌≡◌, ℕ, ◌/◌, true, false, List, length, Ok, Err, Result, refl, sym, subst, ap, ◌∙◌}
+use Rattle.std.proofs.Common.{◌≡◌, ℕ, ◌/◌, true, false, List, length, Ok, Err, Result, refl, sym, subst, ap, ◌∙◌, inl, inr}
 use Rattle.std.specs.Prelude.{IfOk}
 use Rattle.alone_calls.proofs.RoomTests.{look_room, none_for_look, none_for_step, step_room}
-use Rattle.alone_calls.specs.AloneCalls.{EndsCollect, EndsWrite, FindsNoRoom, FindsRoom, IfNoRoom, RepliesRead, RepliesRefresh}
+use Rattle.alone_calls.specs.AloneCalls.{BreaksOffRead, EndsCollect, EndsWrite, FindsNoRoom, FindsRoom, IfNoRoom, OnMemory, RepliesRead, RepliesRefresh}
 use Rattle.chan_calls.proofs.AloneSteps.{is_of_standing}
 use Rattle.chan_calls.specs.Alone.{view_of_lent}
 use Rattle.chan_calls.specs.Caller.{CallerView, HasLookRoom, HasStepRoom, IsOf}
@@ -29,6 +29,7 @@ use Rattle.ssd_histories.specs.SerialStop.{IsCut}
 use Rattle.ssd_histories.specs.ServedCalls.{after_trim}
 use Rattle.ssd_histories.specs.Start.{Start}
 use Rattle.ctl.specs.Asked.{HasOwnData, settings}
+use Rattle.ctl.specs.BrokenOff.{IsBrokenOffBy}
 use Rattle.ctl.specs.ChannelCalls.{EndsOn, ForEach, IsFullFor, IsServedOn, MayRefreshOn, MayServeOn, RefreshEndsOn}
 use Rattle.ctl.specs.Seen.{SeenChannel}
 
@@ -143,7 +144,13 @@ module _ (worker : WorkerState) (old : SeenChannel) (lent : ℕ) (tag : Tag) whe
             (is_of_standing old.kept lent old.view may.start may.contents may.stands) may.stands
             (may.own_data ∙ sym are)).has_length;
       }
-      write_ends (Err StepStop.Memory) goes rooms ends = tt
+      write_ends (Err StepStop.Memory) goes rooms ends =
+          for_each (Verb.Write page content)
+          (λ start contents. IsBrokenOffBy start contents channels tag (Verb.Write page content) old.kept.past new.kept.past)
+          (λ start contents works of stands_for own. (
+            (goes start contents works of stands_for (own ∙ sym are)).1,
+            ends start contents works of stands_for (own ∙ sym are),
+          ))
 
     -- a collect
     pub collect_ends : (channel : ℕ) → MayServeOn (settings worker) old tag (Verb.Collect channel) →
@@ -172,7 +179,11 @@ module _ (worker : WorkerState) (old : SeenChannel) (lent : ℕ) (tag : Tag) whe
           sym (ends may.start may.contents (works_too worker may.start may.works)
           (is_of_standing old.kept lent old.view may.start may.contents may.stands) may.stands).has_length;
     }
-    collect_ends channel may (Err StepStop.Memory) goes rooms ends = tt
+    collect_ends channel may (Err StepStop.Memory) goes rooms ends =
+        for_each (Verb.Collect channel)
+        (λ start contents. IsBrokenOffBy start contents channels tag (Verb.Collect channel) old.kept.past new.kept.past)
+        (λ start contents works of stands_for own.
+        ((goes start contents works of stands_for).1, ends start contents works of stands_for))
 
     -- a call without rounds that found no room for its first entry
     abbrev IsFirst : Verb → Type 0
@@ -204,9 +215,10 @@ module _ (worker : WorkerState) (old : SeenChannel) (lent : ℕ) (tag : Tag) whe
     -- a read
     pub read_ends : (page : ℕ) (result : Result Reply StepStop) → GoesOnFor worker before after stood stands →
         IfNoRoom before after (HasLookRoom old.kept.limit old.kept.past) result →
+        OnMemory result (BreaksOffRead worker before after stood tag (page / channels)) →
         IfOk result (λ reply. RepliesRead worker before after stood tag (page / channels) reply) →
         EndsOn (settings worker) channels old new tag (Verb.Read page) result
-    read_ends page (Ok reply) goes room ok = record {
+    read_ends page (Ok reply) goes room memory ok = record {
       rooms = look_room old.kept.limit old.kept.past room;
       replied =
           for_each (Verb.Read page)
@@ -214,26 +226,36 @@ module _ (worker : WorkerState) (old : SeenChannel) (lent : ℕ) (tag : Tag) whe
           (λ start contents works of stands_for own.
           ((goes start contents works of stands_for).1, ok start contents works of stands_for));
     }
-    read_ends page (Err (StepStop.HistoryFull told)) goes room ok =
+    read_ends page (Err (StepStop.HistoryFull told)) goes room memory ok =
         full (Verb.Read page) told (HasLookRoom old.kept.limit old.kept.past)
         (λ start contents limit_is same none. record { is_same = same; no_room = none }) room
         (none_for_look old.kept.limit old.kept.past room.no_room)
         (λ start contents works of stands_for. (goes start contents works of stands_for).1)
-    read_ends page (Err StepStop.Memory) goes room ok = tt
+    read_ends page (Err StepStop.Memory) goes room memory ok =
+        for_each (Verb.Read page)
+        (λ start contents. IsBrokenOffBy start contents channels tag (Verb.Read page) old.kept.past new.kept.past)
+        (λ start contents works of stands_for own. (
+          (goes start contents works of stands_for).1,
+          elim memory [
+            | inl same ↦ inl same
+            | inr whole ↦ inr (whole.0, whole.1 start contents works of stands_for)
+          ],
+        ))
 
     -- a refresh
     pub refresh_ends : (row : ℕ) (result : Result RefreshReply StepStop) → GoesOnFor worker before after stood stands →
         IfNoRoom before after (HasLookRoom old.kept.limit old.kept.past) result →
+        OnMemory result (new.kept.past ≡ old.kept.past) →
         IfOk result (λ reply. RepliesRefresh worker before after stood tag row reply) →
         RefreshEndsOn (settings worker) old new tag row result
-    refresh_ends row (Ok reply) goes room ok = record {
+    refresh_ends row (Ok reply) goes room memory ok = record {
       has_room = look_room old.kept.limit old.kept.past room;
       refreshed = λ start contents works stands_for.
           let works_here = works_too worker start works in
           let is_of = is_of_standing old.kept lent old.view start contents stands_for in
           ((goes start contents works_here is_of stands_for).1, ok start contents works_here is_of stands_for);
     }
-    refresh_ends row (Err (StepStop.HistoryFull told)) goes room ok = record {
+    refresh_ends row (Err (StepStop.HistoryFull told)) goes room memory ok = record {
       past_stays = room.seen_stays;
       no_room = none_for_look old.kept.limit old.kept.past room.no_room;
       entries_are = room.told_is;
@@ -243,7 +265,14 @@ module _ (worker : WorkerState) (old : SeenChannel) (lent : ℕ) (tag : Tag) whe
         tt,
       );
     }
-    refresh_ends row (Err StepStop.Memory) goes room ok = tt
+    refresh_ends row (Err StepStop.Memory) goes room memory ok = record {
+      past_stays = memory;
+      stands = λ start contents works stands_for. (
+        (goes start contents (works_too worker start works)
+            (is_of_standing old.kept lent old.view start contents stands_for) stands_for).1,
+        tt,
+      );
+    }
 
     -- a call that makes one entry
     module _ (goes : GoesOn before after stood stands) where
@@ -257,12 +286,17 @@ module _ (worker : WorkerState) (old : SeenChannel) (lent : ℕ) (tag : Tag) whe
       stopped : (A : Type 0) (verb : Verb) (stop : StepStop) → IsFirst verb →
           has_first_room old.kept.limit old.kept.past verb ≡ has_step_room old.kept.limit old.kept.past →
           IfNoRoom {A = A} before after (HasStepRoom old.kept.limit old.kept.past) (Err stop) →
+          ((start : Start) (contents : List (Tag × List ℕ)) → new.kept.past ≡ old.kept.past →
+          IsBrokenOffBy start contents channels tag verb old.kept.past new.kept.past) →
+          OnMemory {A = A} (Err stop) (new.kept.past ≡ old.kept.past) →
           EndsOn (settings worker) channels old new tag verb (Err stop)
-      stopped A verb (StepStop.HistoryFull told) first asks room =
+      stopped A verb (StepStop.HistoryFull told) first asks room none memory =
           full verb told (HasStepRoom old.kept.limit old.kept.past) first room
           (asks ∙ none_for_step old.kept.limit old.kept.past room.no_room)
           (λ start contents works of stands_for. (goes start contents of stands_for).1)
-      stopped A verb StepStop.Memory first asks room = tt
+      stopped A verb StepStop.Memory first asks room none memory =
+          one_entry verb (λ start contents. IsBrokenOffBy start contents channels tag verb old.kept.past new.kept.past)
+          (λ start contents. none start contents memory)
 
       pub trim_ends : (page : ℕ) → HasStepRoom old.kept.limit old.kept.past →
           new.kept.past ≡ after_trim tag (page / channels) old.kept.past →
@@ -277,25 +311,29 @@ module _ (worker : WorkerState) (old : SeenChannel) (lent : ℕ) (tag : Tag) whe
 
       pub trim_stops : (page : ℕ) (stop : StepStop) →
           IfNoRoom {A = Unit {0}} before after (HasStepRoom old.kept.limit old.kept.past) (Err stop) →
+          OnMemory {A = Unit {0}} (Err stop) (new.kept.past ≡ old.kept.past) →
           EndsOn (settings worker) channels old new tag (Verb.Trim page) (Err stop)
-      trim_stops page stop room =
+      trim_stops page stop room memory =
           stopped (Unit {0}) (Verb.Trim page) stop
           (λ start contents limit_is same none. record { is_same = same; no_room = none }) refl room
+          (λ start contents same. same) memory
 
       pub age_ends : (channel die sb amount : ℕ) (result : Result Reply StepStop) →
           IfNoRoom before after (HasStepRoom old.kept.limit old.kept.past) result →
+          OnMemory result (new.kept.past ≡ old.kept.past) →
           IfOk result (λ reply. HasAged tag die sb amount old.kept.past new.kept.past reply) →
           EndsOn (settings worker) channels old new tag (Verb.Age channel die sb amount) result
-      age_ends channel die sb amount (Ok reply) room aged = record {
+      age_ends channel die sb amount (Ok reply) room memory aged = record {
         rooms = step_room old.kept.limit old.kept.past room;
         replied =
             one_entry (Verb.Age channel die sb amount)
             (λ start contents. IsRepliedBy start contents channels tag (Verb.Age channel die sb amount) reply old.kept.past
             new.kept.past) (λ start contents. aged);
       }
-      age_ends channel die sb amount (Err stop) room aged =
+      age_ends channel die sb amount (Err stop) room memory aged =
           stopped Reply (Verb.Age channel die sb amount) stop
           (λ start contents limit_is same none. record { is_same = same; no_room = none }) refl room
+          (λ start contents same. same) memory
 
     -- and so for a call of such a verb on such a row
     module _ (verb : Verb) (row page : ℕ) (row_is : row ≡ page / channels) where
@@ -311,11 +349,13 @@ module _ (worker : WorkerState) (old : SeenChannel) (lent : ℕ) (tag : Tag) whe
 
       pub has_read : verb ≡ Verb.Read page → (result : Result Reply StepStop) → GoesOnFor worker before after stood stands →
           IfNoRoom before after (HasLookRoom old.kept.limit old.kept.past) result →
+          OnMemory result (BreaksOffRead worker before after stood tag row) →
           IfOk result (λ reply. RepliesRead worker before after stood tag row reply) →
           EndsOn (settings worker) channels old new tag verb result
-      has_read is result goes room ok =
+      has_read is result goes room memory ok =
           subst (λ (v : Verb). EndsOn (settings worker) channels old new tag v result) (sym is)
           (read_ends page result goes room
+          (subst (λ (n : ℕ). OnMemory result (BreaksOffRead worker before after stood tag n)) row_is memory)
           (subst (λ (n : ℕ). IfOk result (λ reply. RepliesRead worker before after stood tag n reply)) row_is ok))
 
       pub has_trimmed : verb ≡ Verb.Trim page → GoesOn before after stood stands → HasStepRoom old.kept.limit old.kept.past →
@@ -327,10 +367,11 @@ module _ (worker : WorkerState) (old : SeenChannel) (lent : ℕ) (tag : Tag) whe
 
       pub trim_is_stopped : verb ≡ Verb.Trim page → GoesOn before after stood stands → (stop : StepStop) →
           IfNoRoom {A = Unit {0}} before after (HasStepRoom old.kept.limit old.kept.past) (Err stop) →
+          OnMemory {A = Unit {0}} (Err stop) (new.kept.past ≡ old.kept.past) →
           EndsOn (settings worker) channels old new tag verb (Err stop)
-      trim_is_stopped is goes stop room =
+      trim_is_stopped is goes stop room memory =
           subst (λ (v : Verb). EndsOn (settings worker) channels old new tag v (Err stop)) (sym is)
-          (trim_stops goes page stop room)
+          (trim_stops goes page stop room memory)
 
     pub has_collected : (verb : Verb) (channel : ℕ) → verb ≡ Verb.Collect channel → MayServeOn (settings worker) old tag verb →
         (result : Result Reply StepStop) → GoesOnFor worker before after stood stands → FindsRoom before after →
@@ -342,8 +383,9 @@ module _ (worker : WorkerState) (old : SeenChannel) (lent : ℕ) (tag : Tag) whe
     pub has_aged : (verb : Verb) (channel die sb amount : ℕ) → verb ≡ Verb.Age channel die sb amount →
         (result : Result Reply StepStop) → GoesOn before after stood stands →
         IfNoRoom before after (HasStepRoom old.kept.limit old.kept.past) result →
+        OnMemory result (new.kept.past ≡ old.kept.past) →
         IfOk result (λ reply. HasAged tag die sb amount old.kept.past new.kept.past reply) →
         EndsOn (settings worker) channels old new tag verb result
-    has_aged verb channel die sb amount is result goes room ok =
+    has_aged verb channel die sb amount is result goes room memory ok =
         subst (λ (v : Verb). EndsOn (settings worker) channels old new tag v result) (sym is)
-        (age_ends goes channel die sb amount result room ok)
+        (age_ends goes channel die sb amount result room memory ok)

@@ -99,7 +99,9 @@ module _ {X : Type 0} (see : X → SeenChannel) (channels : List X) (worker : Wo
                 Standing.stops_on worker (map see channels) k (old k low other) was starts contents standing call own on_seen
                 (see new) told full;
           }
-          ends (Err StepStop.Memory) full = tt
+          ends (Err StepStop.Memory) broken = λ starts contents standing own.
+              Standing.breaks_off_on worker (map see channels) k (old k low other) was starts contents standing call own on_seen
+              (see new) broken
 
           -- how it ended there is how it ended
           pub serves_on_one : (result : Result Reply StepStop) →
@@ -165,7 +167,14 @@ module _ {X : Type 0} (see : X → SeenChannel) (channels : List X) (worker : Wo
                 Standing.left_out_on worker (map see channels) k (old k page_low other) page_was starts contents standing (see new)
                 told left_out;
           }
-          page_ends (Err StepStop.Memory) left_out = tt
+          page_ends (Err StepStop.Memory) refused = record {
+            pasts_stay = Standing.pasts_stay worker (map see channels) k (old k page_low other) page_was (see new) refused.past_stays;
+            stands = λ starts contents standing. (
+              Standing.refused_on worker (map see channels) k (old k page_low other) page_was starts contents standing (see new)
+                  refused,
+              tt,
+            );
+          }
 
           -- how its refresh ended there is how it ended
           pub refreshes_page : (row : ℕ) → row ≡ page / length channels → (result : Result RefreshReply StepStop) →

@@ -7,10 +7,11 @@ use Rattle.std.proofs.lemmas.List.Elements.{All-append, All-cons, All-nil}
 use Rattle.std.proofs.lemmas.Option.{get_or_from_slice_get, slice_get-map, slice_get_within}
 use Rattle.chan_calls.specs.Workers.{WorkerState}
 use Rattle.ctl.specs.Asked.{FitsDrive, HintsFit, IsPageOf, refreshes}
+use Rattle.ctl.specs.BrokenOff.{IsBrokenOffAs, IsBrokenOffOnOne}
 use Rattle.ctl.specs.Draining.{Drains, IsLeftOut, IsRefreshed, MayRefresh, Refreshes}
 use Rattle.ctl.specs.OnOne.{HasServedOnOne, ServesOnOne}
 use Rattle.ctl.specs.Seen.{SeenChannel, pasts_of}
-use Rattle.ctl.specs.Served.{AreStanding, IsServed, IsStopped, MayServe, Serves}
+use Rattle.ctl.specs.Served.{AreStanding, HasBrokenOff, IsServed, IsStopped, MayServe, Serves}
 use Rattle.run_laws.specs.ServedRuns.{IsServedAs, IsServedOnOne, hints_after}
 use Rattle.run_laws.specs.StoppedRuns.{IsStoppedAs, IsStoppedOnOne}
 use Rattle.serial_laws.proofs.Lists.{IsItemAt, item_at, same_Some}
@@ -90,6 +91,17 @@ module _ (contents : List (Tag × List ℕ)) (starts : List Start) (call : Trace
   as_one_stop (Verb.Collect named) channel entries plain stopped = stopped
   as_one_stop (Verb.Drain count) channel entries plain stopped = absurd (cc)
   as_one_stop (Verb.Age named die sb amount) channel entries plain stopped = stopped
+
+  as_one_broken : (verb : Verb) → IsFalse (refreshes verb) →
+      IsBrokenOffOnOne contents starts call pasts hints after left →
+      IsBrokenOffAs verb contents starts call pasts hints after left
+  as_one_broken (Verb.Write page content) plain broken = broken
+  as_one_broken (Verb.Read page) plain broken = broken
+  as_one_broken (Verb.Trim page) plain broken = broken
+  as_one_broken (Verb.Refresh page) plain broken = absurd (cc)
+  as_one_broken (Verb.Collect named) plain broken = broken
+  as_one_broken (Verb.Drain count) plain broken = absurd (cc)
+  as_one_broken (Verb.Age named die sb amount) plain broken = broken
 
 -- the hints with one page more fit the drive
 pub put_fits : (shape : Shape) (channels page : ℕ) (hints : List ℕ) → IsPageOf shape channels page →
@@ -189,7 +201,11 @@ module _ (worker : WorkerState) (olds news : List SeenChannel) (hints : List ℕ
                 (made.1 hints),
           );
     }
-    on_one_stopped ServeStop.Memory stops = tt
+    on_one_stopped ServeStop.Memory breaks = λ starts contents standing own.
+        let made = breaks starts contents standing own in (
+          made.0,
+          as_one_broken contents starts call (pasts_of olds) hints (pasts_of news) hints call.verb plain (made.1 hints),
+        )
 
     -- so it is however it ended, where it puts no page
     pub on_one_ends : FitsDrive worker.shape (length olds) call.verb → ((reply : Reply) → hints ≡ hints_after call.verb reply hints) →
@@ -230,7 +246,11 @@ module _ (worker : WorkerState) (olds news : List SeenChannel) (hints : List ℕ
               IsStoppedAs verb contents starts call channel entries (pasts_of olds) hints (pasts_of news) left) (sym is) made.1,
         );
   }
-  drain_served left call count is (Err ServeStop.Memory) drains = tt
+  drain_served left call count is (Err ServeStop.Memory) drains = λ starts contents standing own.
+      let made = drains starts contents standing in (
+        made.0,
+        subst (λ (verb : Verb). IsBrokenOffAs verb contents starts call (pasts_of olds) hints (pasts_of news) left) (sym is) made.1,
+      )
 
   -- a refresh of a page
   module _ (tag : Tag) (page : ℕ) where
@@ -307,4 +327,7 @@ module _ (worker : WorkerState) (olds news : List SeenChannel) (hints : List ℕ
     refresh_stopped (ServeStop.HistoryFull channel entries) left_out =
         subst (λ (other : TraceCall). IsStopped worker olds news hints hints other channel entries) this
         (stopped_here call.tag page channel entries left_out)
-    refresh_stopped ServeStop.Memory left_out = tt
+    refresh_stopped ServeStop.Memory refused =
+        subst (λ (other : TraceCall). HasBrokenOff worker olds news hints hints other) this
+        (λ starts contents standing own.
+        ((refused.stands starts contents standing).0, (refused.pasts_stay, refl)))

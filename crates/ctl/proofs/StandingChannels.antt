@@ -7,7 +7,8 @@ use Rattle.std.proofs.Math.Seq.{map-set_same}
 use Rattle.std.proofs.lemmas.Option.{get_or_from_slice_get, slice_get-map, slice_get_within}
 use Rattle.chan_calls.specs.Workers.{WorkerState, WorksFor}
 use Rattle.ctl.specs.Asked.{HasOwnData}
-use Rattle.ctl.specs.ChannelCalls.{HasNoRoomOn, IsFullFor, IsRefreshedOn, IsServedOn}
+use Rattle.ctl.specs.BrokenOff.{IsBrokenOffBy, IsBrokenOffOnOne}
+use Rattle.ctl.specs.ChannelCalls.{ForEach, HasNoRoomOn, IsFullFor, IsRefreshedOn, IsRefusedOn, IsServedOn}
 use Rattle.ctl.specs.Seen.{SeenChannel, Stands, pasts_of}
 use Rattle.ctl.specs.Served.{AreStanding, KeepRooms, KeepsRoom}
 use Rattle.run_laws.proofs.ChangedRuns.{get_set, one_or_other}
@@ -210,6 +211,35 @@ module _ (worker : WorkerState) (channels : List SeenChannel) (k : ℕ) (old : S
               },
             )
 
+        pub breaks_off_on : (new : SeenChannel) →
+            ForEach worker call.tag call.verb old new
+            (λ start contents.
+            IsBrokenOffBy start contents (length channels) call.tag call.verb old.kept.past new.kept.past) →
+            AreStanding worker (slice_set channels k new) starts contents
+            × ((hints : List ℕ) →
+            IsBrokenOffOnOne contents starts call (pasts_of channels) hints (pasts_of (slice_set channels k new)) hints)
+        breaks_off_on new broken =
+            let made = broken start contents works stood own in (
+              stand_after new made.0,
+              λ hints. record {
+                channel = k;
+                past_now = new.kept.past;
+                breaks_off = record {
+                  is_channel = on_start;
+                  start = start;
+                  past = old.kept.past;
+                  has_start = there.is_there;
+                  has_past = has_past;
+                  is_broken_off =
+                      subst (λ (n : ℕ). IsBrokenOffBy start contents n call.tag call.verb old.kept.past new.kept.past)
+                      standing.as_many made.1;
+                  is_lawful = made.0.is_past.is_lawful;
+                };
+                now_is = map-set past_in channels k new;
+                left_is = refl;
+              },
+            )
+
     -- a refresh of a page on it
     module _ (tag : Tag) (page : ℕ) where
       pub refreshes_keep : (new : SeenChannel) (reply : RefreshReply) →
@@ -252,6 +282,10 @@ module _ (worker : WorkerState) (channels : List SeenChannel) (k : ℕ) (old : S
                     ∙ ap {B = List (List Entry)} (λ (n : ℕ). slice_set (pasts_of channels) n new.kept.past) here;
               },
             )
+
+    -- a refresh to whose look memory was refused
+    pub refused_on : (new : SeenChannel) → IsRefusedOn worker old new → AreStanding worker (slice_set channels k new) starts contents
+    refused_on new refused = stand_after new (refused.stands start contents works stood).0
 
     -- a refresh that finds no room for its look
     module _ (new : SeenChannel) (entries : ℕ) (left_out : HasNoRoomOn worker old new entries) where

@@ -1,8 +1,9 @@
 -- What comes of a call of a trace, or of a refresh, on its channel? Whatever the channel stood for, with the data of the call,
--- it stands for after the call. The call was replied to; or the history had no room for its next entry.
+-- it stands for after the call. The call was replied to; or the history had no room for its next entry; or memory was refused.
 use Rattle.std.specs.Prelude.{ℕ, ◌≡◌, false, true, List, [], length, Result, Ok, Err, ⊤}
 use Rattle.chan_calls.specs.Workers.{WorkerState, WorksFor}
 use Rattle.ctl.specs.Asked.{HasOwnData}
+use Rattle.ctl.specs.BrokenOff.{IsBrokenOffBy}
 use Rattle.ctl.specs.Seen.{SeenChannel, Stands}
 use Rattle.run_laws.specs.RepliedCalls.{IsRepliedBy, WasRefreshed}
 use Rattle.run_laws.specs.StoppedRuns.{HaveFoundRoom, IsStoppedBy}
@@ -53,7 +54,9 @@ abbrev pub EndsOn : WorkerState → ℕ → SeenChannel → SeenChannel → Tag 
 EndsOn worker channels old new tag verb (Ok reply) = IsServedOn worker channels old new tag verb reply
 EndsOn worker channels old new tag verb (Err (StepStop.HistoryFull told)) =
     IsFullFor worker channels old new tag verb told
-EndsOn worker channels old new tag verb (Err StepStop.Memory) = ⊤
+EndsOn worker channels old new tag verb (Err StepStop.Memory) =
+    ForEach worker tag verb old new
+    (λ start contents. IsBrokenOffBy start contents channels tag verb old.kept.past new.kept.past)
 
 -- a channel stands for a start for which a worker works
 pub record MayRefreshOn (worker : WorkerState) (channel : SeenChannel) : Type 0 where
@@ -82,11 +85,16 @@ pub record HasNoRoomOn (worker : WorkerState) (old new : SeenChannel) (entries :
   pub entries_are : entries ≡ length old.kept.past
   pub stands : ForEachStart worker old new (λ start contents. ⊤)
 
+-- memory was refused to the look of a refresh
+pub record IsRefusedOn (worker : WorkerState) (old new : SeenChannel) : Type 0 where
+  pub past_stays : new.kept.past ≡ old.kept.past
+  pub stands : ForEachStart worker old new (λ start contents. ⊤)
+
 -- how a refresh ended on its channel
 abbrev pub RefreshEndsOn : WorkerState → SeenChannel → SeenChannel → Tag → ℕ → Result RefreshReply StepStop → Type 0
 RefreshEndsOn worker old new tag row (Ok reply) = IsRefreshedOn worker old new tag row reply
 RefreshEndsOn worker old new tag row (Err (StepStop.HistoryFull told)) = HasNoRoomOn worker old new told
-RefreshEndsOn worker old new tag row (Err StepStop.Memory) = ⊤
+RefreshEndsOn worker old new tag row (Err StepStop.Memory) = IsRefusedOn worker old new
 
 -- why a call on this channel was not served to its end
 abbrev pub stop_on : ℕ → StepStop → ServeStop

@@ -1,8 +1,9 @@
 -- What comes of a drain page by page? Each page in front of the hints is refreshed on its channel, until a die's call failed;
--- where the history of that channel has no room for its look, nothing changed on any channel.
+-- where the history of that channel has no room for its look, or memory is refused, nothing changed on any channel.
 use Rattle.std.specs.Prelude.{ℕ, ◌≡◌, ◌≤◌, ◌%◌, List, length, Result, Ok, Err, ⊤}
 use Rattle.chan_calls.specs.Workers.{WorkerState}
 use Rattle.ctl.specs.Asked.{HintsFit}
+use Rattle.ctl.specs.BrokenOff.{BreaksOffInDrain}
 use Rattle.ctl.specs.Seen.{SeenChannel, pasts_of}
 use Rattle.ctl.specs.Served.{AreStanding, KeepRooms}
 use Rattle.run_laws.specs.ServedRuns.{IsServedDrain, RefreshesOn}
@@ -43,12 +44,17 @@ pub record IsLeftOut (worker : WorkerState) (olds news : List SeenChannel) (page
   pub pasts_stay : pasts_of news ≡ pasts_of olds
   pub no_room : OfEachStart worker olds news (λ starts contents. HasNoRoomToLook starts (pasts_of olds) channel entries)
 
+-- memory was refused to the look of a page's refresh
+pub record IsRefused (worker : WorkerState) (olds news : List SeenChannel) : Type 0 where
+  pub pasts_stay : pasts_of news ≡ pasts_of olds
+  pub stands : OfEachStart worker olds news (λ starts contents. ⊤)
+
 -- how the refresh of a page ended
 abbrev pub Refreshes : WorkerState → List SeenChannel → List SeenChannel → Tag → ℕ → Result RefreshReply ServeStop → Type 0
 Refreshes worker olds news tag page (Ok reply) = IsRefreshed worker olds news tag page reply
 Refreshes worker olds news tag page (Err (ServeStop.HistoryFull channel entries)) =
     IsLeftOut worker olds news page channel entries
-Refreshes worker olds news tag page (Err ServeStop.Memory) = ⊤
+Refreshes worker olds news tag page (Err ServeStop.Memory) = IsRefused worker olds news
 
 -- a drain of so many hints came to its end
 pub record HasDrained (worker : WorkerState) (olds news : List SeenChannel) (hints left : List ℕ) (tag : Tag) (count : ℕ)
@@ -74,4 +80,6 @@ abbrev pub Drains : WorkerState → List SeenChannel → List SeenChannel → Li
 Drains worker olds news hints left tag count (Ok reply) = HasDrained worker olds news hints left tag count reply
 Drains worker olds news hints left tag count (Err (ServeStop.HistoryFull channel entries)) =
     HasStoppedInDrain worker olds news hints left tag count channel entries
-Drains worker olds news hints left tag count (Err ServeStop.Memory) = ⊤
+Drains worker olds news hints left tag count (Err ServeStop.Memory) =
+    OfEachStart worker olds news
+    (λ starts contents. BreaksOffInDrain contents starts tag count (pasts_of olds) hints (pasts_of news) left)

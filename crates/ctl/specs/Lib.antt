@@ -1,4 +1,5 @@
 pub mod Asked
+pub mod BrokenOff
 pub mod ChannelCalls
 pub mod Draining
 pub mod OnOne

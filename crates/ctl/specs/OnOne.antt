@@ -1,6 +1,7 @@
--- What comes of a call that refreshes no page? It is served on its channel, whatever hints wait, or stops there.
-use Rattle.std.specs.Prelude.{ℕ, List, Result, Ok, Err, ⊤}
+-- What comes of a call that refreshes no page? It is served on its channel, whatever hints wait, or stops there, or is broken off.
+use Rattle.std.specs.Prelude.{ℕ, List, Result, Ok, Err}
 use Rattle.chan_calls.specs.Workers.{WorkerState}
+use Rattle.ctl.specs.BrokenOff.{IsBrokenOffOnOne}
 use Rattle.ctl.specs.Seen.{SeenChannel, pasts_of}
 use Rattle.ctl.specs.Served.{KeepRooms, OfEachStanding}
 use Rattle.run_laws.specs.ServedRuns.{IsServedOnOne, hints_after}
@@ -31,4 +32,7 @@ abbrev pub ServesOnOne : WorkerState → List SeenChannel → List SeenChannel �
 ServesOnOne worker olds news call (Ok reply) = HasServedOnOne worker olds news call reply
 ServesOnOne worker olds news call (Err (ServeStop.HistoryFull channel entries)) =
     HasStoppedOnOne worker olds news call channel entries
-ServesOnOne worker olds news call (Err ServeStop.Memory) = ⊤
+ServesOnOne worker olds news call (Err ServeStop.Memory) =
+    OfEachStanding worker olds news call
+    (λ starts contents. (hints : List ℕ) →
+    IsBrokenOffOnOne contents starts call (pasts_of olds) hints (pasts_of news) hints)

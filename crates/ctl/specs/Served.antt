@@ -1,8 +1,10 @@
 -- What comes of a call of a trace? Whatever the channels stood for, with the data of the call, they stand for after it. The
--- call was served with its reply, or stopped where the history of a channel had no room for its next entry.
-use Rattle.std.specs.Prelude.{ℕ, ◌≡◌, ◌≤◌, true, List, [], length, slice_get, Result, Ok, Err, Some, ⊤}
+-- call was served with its reply, or stopped where the history of a channel had no room for its next entry, or was broken off
+-- where memory was refused.
+use Rattle.std.specs.Prelude.{ℕ, ◌≡◌, ◌≤◌, true, List, [], length, slice_get, Result, Ok, Err, Some}
 use Rattle.chan_calls.specs.Workers.{WorkerState, WorksFor}
 use Rattle.ctl.specs.Asked.{FitsDrive, HasOwnData, HintsFit}
+use Rattle.ctl.specs.BrokenOff.{IsBrokenOffCall}
 use Rattle.ctl.specs.Seen.{SeenChannel, Stands, pasts_of}
 use Rattle.run_laws.specs.ServedRuns.{IsServedCall}
 use Rattle.run_laws.specs.StoppedRuns.{IsStoppedCall}
@@ -71,10 +73,16 @@ pub record IsStopped (worker : WorkerState) (olds news : List SeenChannel) (hint
       OfEachStanding worker olds news call
       (λ starts contents. IsStoppedCall contents starts call channel entries (pasts_of olds) hints (pasts_of news) left)
 
+-- memory was refused: the steps that were answered before it stand, and what the channels stood for they stand for
+abbrev pub HasBrokenOff : WorkerState → List SeenChannel → List SeenChannel → List ℕ → List ℕ → TraceCall → Type 0
+HasBrokenOff worker olds news hints left call =
+    OfEachStanding worker olds news call
+    (λ starts contents. IsBrokenOffCall contents starts call (pasts_of olds) hints (pasts_of news) left)
+
 -- how a call ended
 abbrev pub Serves : WorkerState → List SeenChannel → List SeenChannel → List ℕ → List ℕ → TraceCall →
     Result Reply ServeStop → Type 0
 Serves worker olds news hints left call (Ok reply) = IsServed worker olds news hints left call reply
 Serves worker olds news hints left call (Err (ServeStop.HistoryFull channel entries)) =
     IsStopped worker olds news hints left call channel entries
-Serves worker olds news hints left call (Err ServeStop.Memory) = ⊤
+Serves worker olds news hints left call (Err ServeStop.Memory) = HasBrokenOff worker olds news hints left call

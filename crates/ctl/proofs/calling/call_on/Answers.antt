@@ -85,7 +85,7 @@ returns-in-Read-clause-ends g c =
     (seen_by g.P.Policy.told after) c.read.new.steps.channel.ghost_name c.args.channels c.args.call.now.verb
     c.row_of-in-Read.result
     c.in-Read.page c.row_of-in-Read.ensures c.in-Read.is c.read.result c.read.ensures.goes_on
-    c.read.ensures.room c.read.ensures.ok)
+    c.read.ensures.room c.read.ensures.memory c.read.ensures.ok)
 
 -- what the trim added, or that it stopped
 pub returns-in-Ok-clause-ends : goal.returns-in-Ok-clause-ends
@@ -113,7 +113,8 @@ returns-in-Err-clause-ends g c =
     c.args.call.now.tag
     (seen_by g.P.Policy.told after) c.trim.new.steps.channel.ghost_name c.args.channels c.args.call.now.verb
     c.row_of-in-Trim.result
-    c.in-Trim.page c.row_of-in-Trim.ensures c.in-Trim.is c.in-Err.ensures.goes_on c.in-Err.stop c.in-Err.ensures.room)
+    c.in-Trim.page c.row_of-in-Trim.ensures c.in-Trim.is c.in-Err.ensures.goes_on c.in-Err.stop c.in-Err.ensures.room
+    c.in-Err.ensures.memory)
 
 -- what the collect added
 pub returns-in-Collect-clause-ends : goal.returns-in-Collect-clause-ends
@@ -142,4 +143,5 @@ returns-in-Age-clause-ends g c =
     before after c.args.channel.now _ c.new-steps.ensures.channel (search rules)
     (has_aged c.args.worker.now (seen_by g.P.Policy.told before) c.new-steps.result.channel.ghost_name c.args.call.now.tag
     (seen_by g.P.Policy.told after) c.age.new.steps.channel.ghost_name c.args.channels c.args.call.now.verb
-    c.in-Age.channel c.in-Age.die c.in-Age.sb c.in-Age.amount c.in-Age.is c.age.result c.age.ensures.goes_on c.age.ensures.room c.age.ensures.ok)
+    c.in-Age.channel c.in-Age.die c.in-Age.sb c.in-Age.amount c.in-Age.is c.age.result c.age.ensures.goes_on c.age.ensures.room
+    c.age.ensures.memory c.age.ensures.ok)

@@ -27,4 +27,4 @@ returns-clause-ends g c =
     before after c.args.channel.now _ c.new-steps.ensures.channel (search rules)
     (refresh_ends c.args.worker.now (seen_by g.P.Policy.told before) c.new-steps.result.channel.ghost_name c.args.tag
     (seen_by g.P.Policy.told after) c.refresh.new.steps.channel.ghost_name 1 c.args.row c.refresh.result
-    c.refresh.ensures.goes_on c.refresh.ensures.room c.refresh.ensures.ok)
+    c.refresh.ensures.goes_on c.refresh.ensures.room c.refresh.ensures.memory c.refresh.ensures.ok)

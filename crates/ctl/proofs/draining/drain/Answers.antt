@@ -1,6 +1,6 @@
 use Rattle.std.proofs.Common.{◌≡◌, ◌<◌, ◌≤◌, ◌∷◌, ◌∙◌, [], Err, ℕ, ap, arith, length, map, refl, subst, sym, length-append}
 use Rattle.chan_calls.specs.Workers.{WorkerState}
-use Rattle.ctl.proofs.DrainSteps.{DrainsSoFar, drain_begins, drain_faults, drain_goes_on, drain_is_refused, has_all, may_go_on, none_waits, page_here}
+use Rattle.ctl.proofs.DrainSteps.{DrainsSoFar, drain_begins, drain_faults, drain_goes_on, drain_is_not_begun, drain_is_refused, has_all, may_go_on, none_waits, page_here}
 use Rattle.ctl.proofs.SeenChannels.{seen_by}
 use Rattle.ctl.proofs.ServedCalls.{is_that_stop}
 use Rattle.ctl.specs.Asked.{settings}
@@ -22,6 +22,12 @@ loop-init g c = record {
   len = c.in-Ok.ensures.len;
   room = c.in-Ok.ensures.capacity;
 }
+
+-- memory for its reply was refused before it
+pub returns-in_default-clause-drains : goal.returns-in_default-clause-drains
+returns-in_default-clause-drains g c =
+    drain_is_not_begun (settings c.args.worker.now) (map (seen_by g.P.Policy.told) c.args.channels.now) c.args.hints.now c.args.tag
+    c.args.count
 
 -- no hint waits
 pub returns-in_default-take_front-clause-drains : goal.returns-in_default-take_front-clause-drains
