@@ -71,7 +71,7 @@ note_is_quiet : (kind : Kind) → is_note kind ≡ true → is_quiet kind ≡ tr
 note_is_quiet (Kind.Note free victim live pins garbage) e = refl
 note_is_quiet kind e = absurd (false≢true e)
 
-idle_is_note : (kind : Kind) → is_idle_note kind ≡ true → is_note kind ≡ true
+pub idle_is_note : (kind : Kind) → is_idle_note kind ≡ true → is_note kind ≡ true
 idle_is_note (Kind.Note free victim live pins garbage) e = refl
 idle_is_note kind e = absurd (false≢true e)
 

@@ -72,7 +72,7 @@ pub record AreRivals (state : ℕ → LadderState) (base : ChannelBase) (past : 
   pub second_meets : IsLawfulKind state base past tag second
   pub same_choice : IsSameChoice first second
 
-choice_back : (first second : Kind) → IsSameChoice first second → IsSameChoice second first
+pub choice_back : (first second : Kind) → IsSameChoice first second → IsSameChoice second first
 choice_back first second same = record {
   same_pick = λ sb named is is_too. sym (same.same_pick named sb is_too is);
   same_die = sym same.same_die;

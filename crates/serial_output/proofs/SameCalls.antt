@@ -55,7 +55,7 @@ pub channels_come_on : (runs betweens nexts : List ChannelRun) → ChannelsCome 
 channels_come_on runs betweens nexts first second =
     pairs_join RunComesTo RunComesTo RunComesTo runs_come_on runs betweens nexts first second
 
-on_channel_comes : (channel : ℕ) (fact : ChannelRun → List Entry → List Entry → Type 0) (before after : SerialState) →
+pub on_channel_comes : (channel : ℕ) (fact : ChannelRun → List Entry → List Entry → Type 0) (before after : SerialState) →
     (on : OnChannel channel fact before after) → ComesTo on.run.past on.past → ChannelsCome before.channels after.channels
 on_channel_comes channel fact before after on comes =
     subst (ChannelsCome before.channels) (sym (ap (λ (state : SerialState). state.channels) on.after_is))
@@ -71,7 +71,7 @@ module _ (contents : List (Tag × List ℕ)) (channels : ℕ) (tag : Tag) where
       on_channel_comes channel (λ run. HasForm (form run) tag) before after on
       (steps_come tag on.run.past on.past on.holds.steps on.holds.are_steps)
 
-  abbrev drained_on_channel : (page : ℕ) (before after : SerialState) (fault : Bool) →
+  abbrev pub drained_on_channel : (page : ℕ) (before after : SerialState) (fault : Bool) →
       DrainedRefresh contents channels tag page before after fault →
       OnChannel (page % channels) (λ run. HasForm (IsRefresh (ladder_in contents run) (page / channels)) tag) before after
   drained_on_channel page before after fault one = record {
@@ -82,7 +82,7 @@ module _ (contents : List (Tag × List ℕ)) (channels : ℕ) (tag : Tag) where
     after_is = one.after_is;
   }
 
-  drained_comes : (page : ℕ) (before after : SerialState) (fault : Bool) →
+  pub drained_comes : (page : ℕ) (before after : SerialState) (fault : Bool) →
       DrainedRefresh contents channels tag page before after fault → ChannelsCome before.channels after.channels
   drained_comes page before after fault one =
       form_comes (λ run. IsRefresh (ladder_in contents run) (page / channels)) (page % channels) before after
@@ -97,6 +97,31 @@ module _ (contents : List (Tag × List ℕ)) (channels : ℕ) (tag : Tag) where
       (drained_comes page (without_hint rest before) between false one) (drain_comes more)
   drain_comes {before = before} {after = after} (faults {page = page} {rest = rest} is one) =
       drained_comes page (without_hint rest before) after true one
+
+  -- how a drain goes on, with what is known of what comes after a refresh
+  pub data DrainForm (ends : List ChannelRun) (count : ℕ) (pages : List ℕ) (before after : SerialState)
+      (Rest : ℕ → List ℕ → SerialState → Type 0) : Type 0 where
+    took_all : count ≡ 0 → pages ≡ [] → after ≡ before → DrainForm ends count pages before after Rest
+    found_none : before.hints ≡ [] → pages ≡ [] → after ≡ before → DrainForm ends count pages before after Rest
+    took : (less page : ℕ) (rest more : List ℕ) (between : SerialState) → count ≡ suc less → before.hints ≡ page ∷ rest →
+        pages ≡ page ∷ more → DrainedRefresh contents channels tag page (without_hint rest before) between false →
+        ChannelsCome between.channels ends → Rest less more between → DrainForm ends count pages before after Rest
+    stopped : (less page : ℕ) (rest : List ℕ) → count ≡ suc less → before.hints ≡ page ∷ rest → pages ≡ page ∷ [] →
+        DrainedRefresh contents channels tag page (without_hint rest before) after true →
+        DrainForm ends count pages before after Rest
+
+  pub drain_form : (ends : List ChannelRun) (count : ℕ) (pages : List ℕ) (before after : SerialState) →
+      SerialDrain contents channels tag count pages before after → ChannelsCome after.channels ends →
+      DrainForm ends count pages before after
+      (λ less more between. SerialDrain contents channels tag less more between after)
+  drain_form ends count pages before after has_taken_all comes = took_all refl refl refl
+  drain_form ends count pages before after (finds_none none) comes = found_none none refl refl
+  drain_form ends count pages before after
+      (takes {count = less} {page = page} {rest = rest} {pages = more} {between = between} is one later) comes =
+      took less page rest more between refl is refl one
+      (channels_come_on between.channels after.channels ends (drain_comes later) comes) later
+  drain_form ends count pages before after (faults {count = less} {page = page} {rest = rest} is one) comes =
+      stopped less page rest refl is refl one
 
   pub call_comes : (reply : Reply) (verb : Verb) (before after : SerialState) →
       SerialCall contents channels tag reply verb before after → ChannelsCome before.channels after.channels
@@ -187,12 +212,12 @@ module _ (ladder : List Entry → ℕ → LadderState) (base : ChannelBase) (tag
         ∙ first_step tag before s.step [] then second
 
 -- a past of a channel is on the way to the one at the end
-record IsOnTheWay (finals : List ChannelRun) (channel : ℕ) (start : Start) (past : List Entry) : Type 0 where
-  final : List Entry
-  is_there : slice_get finals channel ≡ Some (record { start = start; past = final })
-  comes : ComesTo past final
+pub record IsOnTheWay (finals : List ChannelRun) (channel : ℕ) (start : Start) (past : List Entry) : Type 0 where
+  pub final : List Entry
+  pub is_there : slice_get finals channel ≡ Some (record { start = start; past = final })
+  pub comes : ComesTo past final
 
-on_the_way : (runs finals : List ChannelRun) (channel : ℕ) (run : ChannelRun) → ChannelsCome runs finals →
+pub on_the_way : (runs finals : List ChannelRun) (channel : ℕ) (run : ChannelRun) → ChannelsCome runs finals →
     slice_get runs channel ≡ Some run → IsOnTheWay finals channel run.start run.past
 on_the_way runs finals channel run comes is =
     let found : IsPairedAt (λ (next older : ChannelRun). RunComesTo older next) finals channel run =
@@ -205,36 +230,36 @@ on_the_way runs finals channel run comes is =
     }
 
 -- two calls on one channel left the same
-record IsSameOn (run next : ChannelRun) (past then : List Entry) (after other : SerialState) : Type 0 where
-  same_run : run ≡ next
-  same_past : past ≡ then
-  same_state : after ≡ other
+pub record IsSameOn (run next : ChannelRun) (past then : List Entry) (after other : SerialState) : Type 0 where
+  pub same_run : run ≡ next
+  pub same_past : past ≡ then
+  pub same_state : after ≡ other
 
 -- two calls left the same state, and if they are drains they took the same pages
 pub record IsSameCall (verb : Verb) (reply told : Reply) (after other : SerialState) : Type 0 where
   pub same_state : after ≡ other
   pub names : NamesPages verb reply told
 
-cons_first : (x y : ℕ) (xs ys : List ℕ) → ◌≡◌ {A = List ℕ} (x ∷ xs) (y ∷ ys) → x ≡ y
+pub cons_first : (x y : ℕ) (xs ys : List ℕ) → ◌≡◌ {A = List ℕ} (x ∷ xs) (y ∷ ys) → x ≡ y
 cons_first x y xs ys e = cc
 
-cons_rest : (x y : ℕ) (xs ys : List ℕ) → ◌≡◌ {A = List ℕ} (x ∷ xs) (y ∷ ys) → xs ≡ ys
+pub cons_rest : (x y : ℕ) (xs ys : List ℕ) → ◌≡◌ {A = List ℕ} (x ∷ xs) (y ∷ ys) → xs ≡ ys
 cons_rest x y xs ys e = cc
 
-nothing_or_hint : (page : ℕ) (hints rest : List ℕ) → hints ≡ [] → hints ≡ page ∷ rest → ⊥
+pub nothing_or_hint : (page : ℕ) (hints rest : List ℕ) → hints ≡ [] → hints ≡ page ∷ rest → ⊥
 nothing_or_hint page hints rest none some = absurd (cc)
 
 module _ (contents : List (Tag × List ℕ)) (channels : ℕ) (finals others : List ChannelRun)
     (lawful : All (λ run. IsLawful run.start contents run.past) finals)
     (lawful_too : All (λ run. IsLawful run.start contents run.past) others)
     (starts : All (λ run. IsStart run.start) finals) (alike : RunsChooseAlike finals others) where
-  abbrev ladder_at : Start → List Entry → ℕ → LadderState
+  abbrev pub ladder_at : Start → List Entry → ℕ → LadderState
   ladder_at start = ladder_of (coding_of start.base) start contents
 
   -- what is known of one channel
   module _ (channel : ℕ) (start : Start) (past then : List Entry) (first : IsOnTheWay finals channel start past)
       (second : IsOnTheWay others channel start then) where
-    are_alike : AreAlike (ladder_at start) start.base first.final second.final
+    pub are_alike : AreAlike (ladder_at start) start.base first.final second.final
     are_alike = record {
       law = all_at (λ (run : ChannelRun). IsLawful run.start contents run.past) finals channel
           (record { start = start; past = first.final }) lawful first.is_there;
@@ -244,50 +269,72 @@ module _ (contents : List (Tag × List ℕ)) (channels : ℕ) (finals others : L
           first.is_there second.is_there;
     }
 
-    are_apart : (older : List Entry) → ComesTo older first.final → RowsApart start.base older
-    are_apart older comes =
-        let is_start : IsStart start =
+    is_start : IsStart start
+    is_start =
         all_at (λ (run : ChannelRun). IsStart run.start) finals channel (record { start = start; past = first.final }) starts
-        first.is_there in
+        first.is_there
+
+    apart_before : (final older : List Entry) → IsLawful start contents final → ComesTo older final → RowsApart start.base older
+    apart_before final older law comes =
         let named = starts_have_named_pages start is_start in
-        let law = are_alike.law in
         rows_apart (ladder_at start) start.base older is_start.rows_apart named.rows_name_used
         (lawful_before_last (ladder_at start) start.base comes.newer older
         (subst (λ (xs : List Entry). IsLawful start contents xs) comes.is law))
 
+    pub are_apart : (older : List Entry) → ComesTo older first.final → RowsApart start.base older
+    are_apart older comes = apart_before first.final older are_alike.law comes
+
+    pub apart_too : (older : List Entry) → ComesTo older second.final → RowsApart start.base older
+    apart_too older comes = apart_before second.final older are_alike.too comes
+
   -- a fact that holds between one past and just one other
-  abbrev IsOnce : ℕ → (ChannelRun → List Entry → List Entry → Type 0) → Type 0
+  abbrev pub IsOnce : ℕ → (ChannelRun → List Entry → List Entry → Type 0) → Type 0
   IsOnce channel fact =
       (run : ChannelRun) (past then : List Entry) → fact run run.past past → fact run run.past then →
       IsOnTheWay finals channel run.start past → IsOnTheWay others channel run.start then → past ≡ then
 
-  on_channel_once : (channel : ℕ) (fact : ChannelRun → List Entry → List Entry → Type 0) → IsOnce channel fact →
-      (before after other : SerialState) (on : OnChannel channel fact before after)
-      (next : OnChannel channel fact before other) →
-      ChannelsCome after.channels finals → ChannelsCome other.channels others →
-      IsSameOn on.run next.run on.past next.past after other
-  on_channel_once channel fact once before after other on next comes goes =
+  -- two facts of one channel, each between the past before and a past on the way
+  pub record AreMet (channel : ℕ) (F G : ChannelRun → List Entry → List Entry → Type 0) (before after other : SerialState)
+      (on : OnChannel channel F before after) (next : OnChannel channel G before other) : Type 0 where
+    pub same_run : next.run ≡ on.run
+    pub held : G on.run on.run.past next.past
+    pub first : IsOnTheWay finals channel on.run.start on.past
+    pub second : IsOnTheWay others channel on.run.start next.past
+
+  pub meet : (channel : ℕ) (F G : ChannelRun → List Entry → List Entry → Type 0) (before after other : SerialState)
+      (on : OnChannel channel F before after) (next : OnChannel channel G before other) → ChannelsCome after.channels finals →
+      ChannelsCome other.channels others → AreMet channel F G before after other on next
+  meet channel F G before after other on next comes goes =
       let runs : next.run ≡ on.run = same_Some next.run on.run (sym next.is_there ∙ on.is_there) in
-      let held : fact on.run on.run.past next.past =
-      subst (λ (run : ChannelRun). fact run run.past next.past) runs next.holds in
       let here : slice_get after.channels channel ≡ Some (record { start = on.run.start; past = on.past }) =
       ap (λ (state : SerialState). slice_get state.channels channel) on.after_is
       ∙ get_set_there before.channels channel on.run (record { start = on.run.start; past = on.past }) on.is_there in
       let there : slice_get other.channels channel ≡ Some (record { start = next.run.start; past = next.past }) =
       ap (λ (state : SerialState). slice_get state.channels channel) next.after_is
       ∙ get_set_there before.channels channel next.run (record { start = next.run.start; past = next.past }) next.is_there in
-      let first : IsOnTheWay finals channel on.run.start on.past =
-      on_the_way after.channels finals channel (record { start = on.run.start; past = on.past }) comes here in
       let second : IsOnTheWay others channel next.run.start next.past =
       on_the_way other.channels others channel (record { start = next.run.start; past = next.past }) goes there in
-      let pasts : on.past ≡ next.past =
-      once on.run on.past next.past on.holds held first
-      (subst (λ (run : ChannelRun). IsOnTheWay others channel run.start next.past) runs second) in
       record {
-        same_run = sym runs;
+        same_run = runs;
+        held = subst (λ (run : ChannelRun). G run run.past next.past) runs next.holds;
+        first = on_the_way after.channels finals channel (record { start = on.run.start; past = on.past }) comes here;
+        second = subst (λ (run : ChannelRun). IsOnTheWay others channel run.start next.past) runs second;
+      }
+
+  pub on_channel_once : (channel : ℕ) (fact : ChannelRun → List Entry → List Entry → Type 0) → IsOnce channel fact →
+      (before after other : SerialState) (on : OnChannel channel fact before after)
+      (next : OnChannel channel fact before other) →
+      ChannelsCome after.channels finals → ChannelsCome other.channels others →
+      IsSameOn on.run next.run on.past next.past after other
+  on_channel_once channel fact once before after other on next comes goes =
+      let met : AreMet channel fact fact before after other on next =
+      meet channel fact fact before after other on next comes goes in
+      let pasts : on.past ≡ next.past = once on.run on.past next.past on.holds met.held met.first met.second in
+      record {
+        same_run = sym met.same_run;
         same_past = pasts;
         same_state =
-            on.after_is ∙ (λ i. with_past channel (pasts i) (sym runs i) before) ∙ sym next.after_is;
+            on.after_is ∙ (λ i. with_past channel (pasts i) (sym met.same_run i) before) ∙ sym next.after_is;
       }
 
   module _ (tag : Tag) where
@@ -326,9 +373,9 @@ module _ (contents : List (Tag × List ℕ)) (channels : ℕ) (finals others : L
         collect then collect_too first.comes second.comes
 
     -- a refresh of a drain
-    record IsSameRefresh (after other : SerialState) (fault fault_too : Bool) : Type 0 where
-      same_state : after ≡ other
-      same_fault : fault ≡ fault_too
+    pub record IsSameRefresh (after other : SerialState) (fault fault_too : Bool) : Type 0 where
+      pub same_state : after ≡ other
+      pub same_fault : fault ≡ fault_too
 
     refresh_once : (page : ℕ) (before after other : SerialState) (fault fault_too : Bool) →
         DrainedRefresh contents channels tag page before after fault →
@@ -350,30 +397,22 @@ module _ (contents : List (Tag × List ℕ)) (channels : ℕ) (finals others : L
           same_fault = sym one.fault_is ∙ ap has_fault steps ∙ next.fault_is;
         }
 
-    -- how a drain goes on, with what is known of what comes after a refresh
-    data DrainForm (ends : List ChannelRun) (count : ℕ) (pages : List ℕ) (before after : SerialState)
-        (Rest : ℕ → List ℕ → SerialState → Type 0) : Type 0 where
-      took_all : count ≡ 0 → pages ≡ [] → after ≡ before → DrainForm ends count pages before after Rest
-      found_none : before.hints ≡ [] → pages ≡ [] → after ≡ before → DrainForm ends count pages before after Rest
-      took : (less page : ℕ) (rest more : List ℕ) (between : SerialState) → count ≡ suc less → before.hints ≡ page ∷ rest →
-          pages ≡ page ∷ more → DrainedRefresh contents channels tag page (without_hint rest before) between false →
-          ChannelsCome between.channels ends → Rest less more between → DrainForm ends count pages before after Rest
-      stopped : (less page : ℕ) (rest : List ℕ) → count ≡ suc less → before.hints ≡ page ∷ rest → pages ≡ page ∷ [] →
-          DrainedRefresh contents channels tag page (without_hint rest before) after true →
-          DrainForm ends count pages before after Rest
-
-    drain_form : (ends : List ChannelRun) (count : ℕ) (pages : List ℕ) (before after : SerialState) →
-        SerialDrain contents channels tag count pages before after → ChannelsCome after.channels ends →
-        DrainForm ends count pages before after
-        (λ less more between. SerialDrain contents channels tag less more between after)
-    drain_form ends count pages before after has_taken_all comes = took_all refl refl refl
-    drain_form ends count pages before after (finds_none none) comes = found_none none refl refl
-    drain_form ends count pages before after
-        (takes {count = less} {page = page} {rest = rest} {pages = more} {between = between} is one later) comes =
-        took less page rest more between refl is refl one
-        (channels_come_on between.channels after.channels ends (drain_comes contents channels tag later) comes) later
-    drain_form ends count pages before after (faults {count = less} {page = page} {rest = rest} is one) comes =
-        stopped less page rest refl is refl one
+    -- both take the same page first
+    pub same_taken : (before : SerialState) (page named : ℕ) (rest left_over : List ℕ) (between then : SerialState)
+        (fault fault_too : Bool) →
+        before.hints ≡ page ∷ rest → before.hints ≡ named ∷ left_over →
+        DrainedRefresh contents channels tag page (without_hint rest before) between fault →
+        DrainedRefresh contents channels tag named (without_hint left_over before) then fault_too →
+        ChannelsCome between.channels finals → ChannelsCome then.channels others → IsSameRefresh between then fault fault_too
+    same_taken before page named rest left_over between then fault fault_too is is_too one next came went =
+        let e : ◌≡◌ {A = List ℕ} (named ∷ left_over) (page ∷ rest) = sym is_too ∙ is in
+        let firsts : named ≡ page = cons_first named page left_over rest e in
+        let rests : left_over ≡ rest = cons_rest named page left_over rest e in
+        refresh_once page (without_hint rest before) between then fault fault_too one
+        (subst (λ (n : ℕ). DrainedRefresh contents channels tag n (without_hint rest before) then fault_too) firsts
+        (subst (λ (xs : List ℕ). DrainedRefresh contents channels tag named
+        (without_hint xs before) then fault_too) rests next))
+        came went
 
     -- two drains left the same state and took the same pages
     record IsSameDrain (pages told : List ℕ) (after other : SerialState) : Type 0 where
@@ -389,7 +428,7 @@ module _ (contents : List (Tag × List ℕ)) (channels : ℕ) (finals others : L
 
       abbrev Second : Type 0
       Second =
-          DrainForm others count told before other
+          DrainForm contents channels tag others count told before other
           (λ less more between. SerialDrain contents channels tag less more between other)
 
       unmoved : pages ≡ [] → told ≡ [] → after ≡ before → other ≡ before → IsSameDrain pages told after other
@@ -398,23 +437,8 @@ module _ (contents : List (Tag × List ℕ)) (channels : ℕ) (finals others : L
       zero_or_more : (less : ℕ) → count ≡ 0 → count ≡ suc less → ⊥
       zero_or_more less none some = absurd (omega (arith, none, some))
 
-      -- both take the same page first
-      same_taken : (page named : ℕ) (rest left_over : List ℕ) (between then : SerialState) (fault fault_too : Bool) →
-          before.hints ≡ page ∷ rest → before.hints ≡ named ∷ left_over →
-          DrainedRefresh contents channels tag page (without_hint rest before) between fault →
-          DrainedRefresh contents channels tag named (without_hint left_over before) then fault_too →
-          ChannelsCome between.channels finals → ChannelsCome then.channels others → IsSameRefresh between then fault fault_too
-      same_taken page named rest left_over between then fault fault_too is is_too one next came went =
-          let e : ◌≡◌ {A = List ℕ} (named ∷ left_over) (page ∷ rest) = sym is_too ∙ is in
-          let firsts : named ≡ page = cons_first named page left_over rest e in
-          let rests : left_over ≡ rest = cons_rest named page left_over rest e in
-          refresh_once page (without_hint rest before) between then fault fault_too one
-          (subst (λ (n : ℕ). DrainedRefresh contents channels tag n (without_hint rest before) then fault_too) firsts
-          (subst (λ (xs : List ℕ). DrainedRefresh contents channels tag named
-          (without_hint xs before) then fault_too) rests next))
-          came went
-
-      drain_forms_same : DrainForm finals count pages before after Later → Second → IsSameDrain pages told after other
+      drain_forms_same : DrainForm contents channels tag finals count pages before after Later → Second →
+          IsSameDrain pages told after other
       drain_forms_same (took_all none no_page is) (took_all none_too no_page_too is_too) = unmoved no_page no_page_too is is_too
       drain_forms_same (took_all none no_page is) (found_none empty no_page_too is_too) = unmoved no_page no_page_too is is_too
       drain_forms_same (took_all none no_page is) (took less page rest more between some hint are one went later) =
@@ -435,7 +459,7 @@ module _ (contents : List (Tag × List ℕ)) (channels : ℕ) (finals others : L
       drain_forms_same (took less page rest more between some hint are one came later)
           (took fewer named left_over named_more then some_too hint_too are_too next went rest_too) =
           let same : IsSameRefresh between then false false =
-          same_taken page named rest left_over between then false false hint hint_too one next came went in
+          same_taken before page named rest left_over between then false false hint hint_too one next came went in
           let counts : fewer ≡ less = omega (arith, some, some_too) in
           let firsts : page ≡ named = cons_first page named rest left_over (sym hint ∙ hint_too) in
           let moved : SerialDrain contents channels tag less named_more between other =
@@ -449,7 +473,7 @@ module _ (contents : List (Tag × List ℕ)) (channels : ℕ) (finals others : L
       drain_forms_same (took less page rest more between some hint are one came later)
           (stopped fewer named left_over some_too hint_too are_too next) =
           absurd (false≢true
-          (same_taken page named rest left_over between other false true hint hint_too one next came goes).same_fault)
+          (same_taken before page named rest left_over between other false true hint hint_too one next came goes).same_fault)
       drain_forms_same (stopped less page rest some hint are one) (took_all none no_page is) =
           absurd (zero_or_more less none some)
       drain_forms_same (stopped less page rest some hint are one) (found_none empty no_page is) =
@@ -457,11 +481,12 @@ module _ (contents : List (Tag × List ℕ)) (channels : ℕ) (finals others : L
       drain_forms_same (stopped less page rest some hint are one)
           (took fewer named left_over named_more then some_too hint_too are_too next went rest_too) =
           absurd (false≢true
-          (sym (same_taken page named rest left_over after then true false hint hint_too one next comes went).same_fault))
+          (sym
+          (same_taken before page named rest left_over after then true false hint hint_too one next comes went).same_fault))
       drain_forms_same (stopped less page rest some hint are one)
           (stopped fewer named left_over some_too hint_too are_too next) =
           let same : IsSameRefresh after other true true =
-          same_taken page named rest left_over after other true true hint hint_too one next comes goes in
+          same_taken before page named rest left_over after other true true hint hint_too one next comes goes in
           let firsts : page ≡ named = cons_first page named rest left_over (sym hint ∙ hint_too) in
           record { same_state = same.same_state; same_pages = are ∙ ap (λ (n : ℕ). n ∷ []) firsts ∙ sym are_too }
 
@@ -471,10 +496,10 @@ module _ (contents : List (Tag × List ℕ)) (channels : ℕ) (finals others : L
         ChannelsCome other.channels others → IsSameDrain pages told after other
     drains_once {count} {pages} {before} {after} has_taken_all told other second comes goes =
         drain_forms_same count pages told before after other comes goes (took_all refl refl refl)
-        (drain_form others count told before other second goes)
+        (drain_form contents channels tag others count told before other second goes)
     drains_once {count} {pages} {before} {after} (finds_none none) told other second comes goes =
         drain_forms_same count pages told before after other comes goes (found_none none refl refl)
-        (drain_form others count told before other second goes)
+        (drain_form contents channels tag others count told before other second goes)
     drains_once {count} {pages} {before} {after}
         (takes {count = less} {page = page} {rest = rest} {pages = more} {between = between} is one later) told other second
         comes goes =
@@ -482,11 +507,11 @@ module _ (contents : List (Tag × List ℕ)) (channels : ℕ) (finals others : L
         (took less page rest more between refl is refl one
         (channels_come_on between.channels after.channels finals (drain_comes contents channels tag later) comes)
         (λ named then rest_too went. drains_once later named then rest_too comes went))
-        (drain_form others count told before other second goes)
+        (drain_form contents channels tag others count told before other second goes)
     drains_once {count} {pages} {before} {after} (faults {count = less} {page = page} {rest = rest} is one) told other second
         comes goes =
         drain_forms_same count pages told before after other comes goes (stopped less page rest refl is refl one)
-        (drain_form others count told before other second goes)
+        (drain_form contents channels tag others count told before other second goes)
 
     -- a call of any verb
     pub calls_once : (reply told : Reply) (verb : Verb) (before after other : SerialState) →

@@ -63,13 +63,13 @@ pub record IsSameEnd (now then : List Entry) (end other_end : RoundEnd) : Type 0
   pub same_past : now ≡ then
   pub same_end : end ≡ other_end
 
-record IsSameCopy (now then : List Entry) (ends ends_too fault fault_too : Bool) : Type 0 where
-  same_past : now ≡ then
-  same_ends : ends ≡ ends_too
-  same_fault : fault ≡ fault_too
+pub record IsSameCopy (now then : List Entry) (ends ends_too fault fault_too : Bool) : Type 0 where
+  pub same_past : now ≡ then
+  pub same_ends : ends ≡ ends_too
+  pub same_fault : fault ≡ fault_too
 
 -- the erase of a superblock, done or failed, with how it ends a round
-data IsErasing (sb : ℕ) : Kind → RoundEnd → Type 0 where
+pub data IsErasing (sb : ℕ) : Kind → RoundEnd → Type 0 where
   was_erased : IsErasing sb (Kind.Erase sb) erased
   was_retired : (die : ℕ) → IsErasing sb (Kind.BadErase sb die false) retired
   was_faulted : (die : ℕ) → IsErasing sb (Kind.BadErase sb die true) faulted
@@ -78,11 +78,11 @@ record IsSameErase (kind other : Kind) (end other_end : RoundEnd) : Type 0 where
   same_kind : kind ≡ other
   same_end : end ≡ other_end
 
-no_live : (base : ChannelBase) (past : List Entry) → victim_of base past ≡ None → live_of_victim base past ≡ 0
+pub no_live : (base : ChannelBase) (past : List Entry) → victim_of base past ≡ None → live_of_victim base past ≡ 0
 no_live base past none = rw (none, live_of_victim) refl
 
 -- how a part of a round after its pick goes on, with what is known of what comes after a copy
-data CopiesForm (ladder : List Entry → ℕ → LadderState) (base : ChannelBase) (tag : Tag) (before now final : List Entry)
+pub data CopiesForm (ladder : List Entry → ℕ → LadderState) (base : ChannelBase) (tag : Tag) (before now final : List Entry)
     (end : RoundEnd) (Rest : List Entry → Type 0) : Type 0 where
   copied : (between : List Entry) → IsSerialCopy ladder base tag before between false false → ComesTo between final →
       Rest between → CopiesForm ladder base tag before now final end Rest
@@ -99,7 +99,7 @@ module _ (ladder : List Entry → ℕ → LadderState) (base : ChannelBase) (tag
       let made = copies_are_made ladder base tag copies in
       steps_come tag before now _ made.are_steps
 
-  form_of : (before now final : List Entry) (end : RoundEnd) → SerialCopies ladder base tag before now end →
+  pub form_of : (before now final : List Entry) (end : RoundEnd) → SerialCopies ladder base tag before now end →
       ComesTo now final →
       CopiesForm ladder base tag before now final end (λ between. SerialCopies ladder base tag between now end)
   form_of before now final end (goes_on {between = between} copy rest) comes =
@@ -171,7 +171,7 @@ module _ (ladder : List Entry → ℕ → LadderState) (base : ChannelBase) (tag
         goes first.row (copy_is_list ladder base tag first.row copy.steps look at_row copy.is_copy.is_copy)
         (copy_is_list ladder base tag first.row next.steps seen at_row_too next.is_copy.is_copy)
 
-    copy_once : (before now then : List Entry) (ends ends_too fault fault_too : Bool)
+    pub copy_once : (before now then : List Entry) (ends ends_too fault fault_too : Bool)
         (copy : IsSerialCopy ladder base tag before now ends fault)
         (next : IsSerialCopy ladder base tag before then ends_too fault_too) → ComesTo now one → ComesTo then other →
         IsSameCopy now then ends ends_too fault fault_too

@@ -19,13 +19,13 @@ use Rattle.serial_output.specs.OneOutput.{ChoicesDecideRuns, RunsChooseAlike}
 use Rattle.serial_output.proofs.SameCalls.{ChannelsCome, IsSameCall, RunComesTo, call_comes, calls_once, channels_come_on, run_itself}
 
 -- the first of some calls that were served, and the others
-record ServesFirst (contents : List (Tag × List ℕ)) (replies : List (List Reply)) (channels : ℕ) (call : TraceCall)
+pub record ServesFirst (contents : List (Tag × List ℕ)) (replies : List (List Reply)) (channels : ℕ) (call : TraceCall)
     (calls : List TraceCall) (before after : SerialState) : Type 0 where
-  reply : Reply
-  between : SerialState
-  is : reply_to replies call.tag ≡ Some reply
-  made : SerialCall contents channels call.tag reply call.verb before between
-  rest : AreServed contents replies channels calls between after
+  pub reply : Reply
+  pub between : SerialState
+  pub is : reply_to replies call.tag ≡ Some reply
+  pub made : SerialCall contents channels call.tag reply call.verb before between
+  pub rest : AreServed contents replies channels calls between after
 
 -- a call has a reply in both runs; if it is a drain, these tell the same pages
 pub record IsAnsweredTwice (replies others : List (List Reply)) (call : TraceCall) : Type 0 where
@@ -40,17 +40,17 @@ record IsSameServing (replies others : List (List Reply)) (calls : List TraceCal
   answered : All (IsAnsweredTwice replies others) calls
 
 module _ (contents : List (Tag × List ℕ)) (channels : ℕ) where
-  serves_first : (replies : List (List Reply)) {call : TraceCall} {calls : List TraceCall} {before after : SerialState} →
+  pub serves_first : (replies : List (List Reply)) {call : TraceCall} {calls : List TraceCall} {before after : SerialState} →
       AreServed contents replies channels (call ∷ calls) before after →
       ServesFirst contents replies channels call calls before after
   serves_first replies (serves {reply = reply} {between = between} is made rest) =
       record { reply = reply; between = between; is = is; made = made; rest = rest }
 
-  serves_none : (replies : List (List Reply)) {before after : SerialState} →
+  pub serves_none : (replies : List (List Reply)) {before after : SerialState} →
       AreServed contents replies channels [] before after → before ≡ after
   serves_none replies none_left = refl
 
-  served_comes : (replies : List (List Reply)) (calls : List TraceCall) (before after : SerialState) →
+  pub served_comes : (replies : List (List Reply)) (calls : List TraceCall) (before after : SerialState) →
       AreServed contents replies channels calls before after → ChannelsCome before.channels after.channels
   served_comes replies [] before after served =
       subst (λ (state : SerialState). ChannelsCome before.channels state.channels) (serves_none replies served)
@@ -97,7 +97,7 @@ module _ (contents : List (Tag × List ℕ)) (channels : ℕ) where
         }
 
 -- the channels at the end have the starts of the run
-starts_first : (starts : List Start) → All IsStart starts →
+pub starts_first : (starts : List Start) → All IsStart starts →
     All (λ run. IsStart run.start) (map {B = ChannelRun} (λ start. record { start = start; past = [] }) starts)
 starts_first [] all = All-nil (λ (run : ChannelRun). IsStart run.start)
 starts_first (start ∷ starts) all =
@@ -105,7 +105,7 @@ starts_first (start ∷ starts) all =
     (map (λ begun. record { start = begun; past = [] }) starts) (All-head IsStart start starts all)
     (starts_first starts (All-tail IsStart start starts all))
 
-starts_at_end : (runs nexts : List ChannelRun) → ChannelsCome runs nexts → All (λ run. IsStart run.start) runs →
+pub starts_at_end : (runs nexts : List ChannelRun) → ChannelsCome runs nexts → All (λ run. IsStart run.start) runs →
     All (λ run. IsStart run.start) nexts
 starts_at_end runs nexts come all =
     pairs_all RunComesTo (λ run. IsStart run.start) (λ run. IsStart run.start)
@@ -129,7 +129,7 @@ module _ (contents : List (Tag × List ℕ)) (replies others : List (List Reply)
       let second : twice.told ≡ only.reply = only.only twice.told (is_too twice.told twice.is_too) twice.names in
       twice.is ∙ ap (λ (reply : Reply). Some reply) (first ∙ sym second) ∙ sym twice.is_too
 
-  replies_same : (calls : List TraceCall) → All (IsAnsweredTwice replies others) calls →
+  pub replies_same : (calls : List TraceCall) → All (IsAnsweredTwice replies others) calls →
       All (λ call. ForSome (reply_to replies call.tag) (HasOneReply contents runs call)) calls →
       All (λ call. ForSome (reply_to replies call.tag) (IsReplyOf contents runs call)) calls →
       All (λ call. ForSome (reply_to others call.tag) (IsReplyOf contents runs call)) calls →

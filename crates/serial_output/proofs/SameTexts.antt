@@ -1,7 +1,7 @@
 -- Two runs that choose alike have the same pasts, replies and drops, and so print the same text; where each view is told and no
 -- die's call failed, they choose alike.
 use Rattle.std.proofs.Common.{ℕ, suc, ◌≡◌, ◌<◌, ◌≤◌, ◌+◌, ◌==◌, Bool, true, false, cond, List, [], ◌∷◌, ◌++◌, length, map, Option, Some, None, refl, sym, ap, subst, ◌∙◌, inl, inr, arith, append_assoc, append-nil, eqb-true, ltb-true}
-use Rattle.std.specs.Prelude.{All, count_by, is_some, nat_lt, slice_get, slice_index_or}
+use Rattle.std.specs.Prelude.{All, IsTrue, count_by, is_some, nat_lt, slice_get, slice_index_or}
 use Rattle.std.specs.List.{enumerate_from}
 use Rattle.std.proofs.Math.ListN.{get_or-eq_default}
 use Rattle.std.proofs.lemmas.Bool.{cases_eq, false≢true, ltb-false}
@@ -13,7 +13,7 @@ use Rattle.ssd_geo.specs.Coding.{coding_of}
 use Rattle.ssd_formats.specs.ImageHead.{Head}
 use Rattle.ssd_formats.specs.RunText.{run_text}
 use Rattle.ssd_formats.specs.TraceText.{contents_of, kinds_of_trace}
-use Rattle.ssd_histories.specs.CallsInOrder.{AreNumberedAfter, ChannelRun, IsNumberedAfter, reply_to}
+use Rattle.ssd_histories.specs.CallsInOrder.{AreNumberedAfter, AreReplies, ChannelRun, IsNumberedAfter, reply_to}
 use Rattle.ssd_histories.specs.FollowedViews.{FollowsTold}
 use Rattle.ssd_histories.specs.History.{history_of}
 use Rattle.ssd_histories.specs.Lawful.{IsLawful}
@@ -24,15 +24,17 @@ use Rattle.ssd_histories.specs.Start.{Start}
 use Rattle.ssd_geo.specs.declared.entry.Entry.{Entry}
 use Rattle.ssd_geo.specs.declared.policy_view.PolicyView.{PolicyView}
 use Rattle.ssd_geo.specs.declared.reply.Reply.{Reply}
+use Rattle.ssd_geo.specs.declared.tag.Tag.{Tag}
 use Rattle.ssd_geo.specs.declared.trace.Trace.{Trace}
 use Rattle.ssd_geo.specs.declared.trace.TraceCall.{TraceCall}
 use Rattle.run_laws.specs.Headline.{AreCounted, Headline, IsWholeRun}
 use Rattle.run_laws.specs.Runs.{FaultCounts, Run, channels_of, data_in, runs_with}
+use Rattle.run_laws.specs.SerialRuns.{state_of}
 use Rattle.run_laws.proofs.ChangedRuns.{run_parts}
 use Rattle.run_laws.proofs.CountedFaults.{uncounted_faults_are_none}
 use Rattle.serial_laws.proofs.Lists.{all_at, numbered_at, same_Some}
 use Rattle.serial_laws.proofs.NumberedTags.{counts_in}
-use Rattle.serial_output.specs.OneOutput.{AreOneRun, AreTwoRuns, ChoicesDecideOutput, HasNoFault, HaveOneOutput, InputsDecideOutput, NoCountRose, RunsChooseAlike, ViewsDecideOutput}
+use Rattle.serial_output.specs.OneOutput.{AreOfOneInput, AreOneRun, ChoicesDecideOutput, HasNoFault, HaveOneOutput, InputsDecideOutput, NoCountRose, RunsChooseAlike, ViewsDecideOutput}
 use Rattle.serial_output.proofs.SameRuns.{choices_decide_runs}
 use Rattle.serial_output.proofs.ToldViews.{views_choose_alike}
 
@@ -172,7 +174,7 @@ few_replies calls replies enough actor = by_order (nat_lt actor (length replies)
         omega (arith, short)
 
 -- a whole run is a serial run
-whole_is_serial : (head : Head) (run : Run) → Headline head run → (whole : IsWholeRun head run) →
+pub whole_is_serial : (head : Head) (run : Run) → Headline head run → (whole : IsWholeRun head run) →
     IsSerialRun (data_in head run) run.starts run.calls.calls run.replies
     (record { channels = channels_of run; hints = whole.hints; dropped = run.dropped })
 whole_is_serial head run holds whole = record {
@@ -184,63 +186,62 @@ whole_is_serial head run holds whole = record {
   are_replies = holds.are_replies;
 }
 
-module _ (head : Head) (run other : Run) (two : AreTwoRuns head run other) where
-  -- the other run, as one of the same starts and calls
-  other_is_serial :
-      IsSerialRun (data_in head run) run.starts run.calls.calls other.replies
-      (record { channels = channels_of other; hints = two.whole_too.hints; dropped = other.dropped })
-  other_is_serial =
-      let state : SerialState =
-      record { channels = channels_of other; hints = two.whole_too.hints; dropped = other.dropped } in
-      subst (λ (trace : Trace). IsSerialRun
-      (contents_of head.sizes.bytes trace.calls) run.starts trace.calls other.replies state)
-      (sym two.same_calls)
-      (subst (λ (starts : List Start). IsSerialRun (data_in head other) starts other.calls.calls other.replies state)
-      (sym two.same_starts) (whole_is_serial head other two.holds_too two.whole_too))
+-- two runs of one input
+module _ (head : Head) (run other : Run) (input : AreOfOneInput head run other) where
+  -- what is said of the other run is said of one with the same starts and calls
+  pub as_of_input : (fact : List (Tag × List ℕ) → List Start → List TraceCall → Type 0) →
+      fact (data_in head other) other.starts other.calls.calls → fact (data_in head run) run.starts run.calls.calls
+  as_of_input fact held =
+      subst (λ (trace : Trace). fact (contents_of head.sizes.bytes trace.calls) run.starts trace.calls) (sym input.same_calls)
+      (subst (λ (starts : List Start). fact (data_in head other) starts other.calls.calls) (sym input.same_starts) held)
 
-  module _ (alike : RunsChooseAlike (channels_of run) (channels_of other)) where
-    one_run :
-        AreOneRun run.calls.calls run.replies other.replies
-        (record { channels = channels_of run; hints = two.whole.hints; dropped = run.dropped })
-        (record { channels = channels_of other; hints = two.whole_too.hints; dropped = other.dropped })
-    one_run =
-        choices_decide_runs (data_in head run) run.starts run.calls.actors run.calls.calls run.replies other.replies
-        (record { channels = channels_of run; hints = two.whole.hints; dropped = run.dropped })
-        (record { channels = channels_of other; hints = two.whole_too.hints; dropped = other.dropped })
-        (starts_of_channels run.starts run.pasts two.holds.as_many_pasts
-        (All-weaker (λ (channel : ChannelRun). IsPastOf channel.start (data_in head run) channel.past)
-        (λ (channel : ChannelRun). IsStart channel.start) (λ channel past. past.is_start)
-        (channels_of run) two.holds.are_pasts))
-        two.numbered (whole_is_serial head run two.holds two.whole) other_is_serial alike
+  pub are_starts : All IsStart run.starts
+  are_starts =
+      starts_of_channels run.starts run.pasts input.holds.as_many_pasts
+      (All-weaker (λ (channel : ChannelRun). IsPastOf channel.start (data_in head run) channel.past)
+      (λ (channel : ChannelRun). IsStart channel.start) (λ channel past. past.is_start) (channels_of run) input.holds.are_pasts)
 
+  -- where the states at the end and the replies are the same, so is the output
+  module _ (hints left : List ℕ)
+      (one : AreOneRun run.calls.calls run.replies other.replies (state_of run hints) (state_of other left)) where
     pasts_same : run.pasts ≡ other.pasts
     pasts_same =
-        sym (pasts_of_channels run.starts run.pasts two.holds.as_many_pasts)
-        ∙ ap (λ (state : SerialState). map (λ (channel : ChannelRun). channel.past) state.channels) one_run.same_state
-        ∙ pasts_of_channels other.starts other.pasts two.holds_too.as_many_pasts
+        sym (pasts_of_channels run.starts run.pasts input.holds.as_many_pasts)
+        ∙ ap (λ (state : SerialState). map (λ (channel : ChannelRun). channel.past) state.channels) one.same_state
+        ∙ pasts_of_channels other.starts other.pasts input.holds_too.as_many_pasts
 
     dropped_same : run.dropped ≡ other.dropped
-    dropped_same = ap (λ (state : SerialState). state.dropped) one_run.same_state
+    dropped_same = ap (λ (state : SerialState). state.dropped) one.same_state
 
     replies_are_same : run.replies ≡ other.replies
     replies_are_same =
-        all_replies_same run.calls.actors run.calls.calls run.replies other.replies two.numbered one_run.same_replies
-        (few_replies run.calls.calls run.replies two.holds.are_replies.enough_calls)
-        (few_replies run.calls.calls other.replies other_is_serial.are_replies.enough_calls)
-        (two.holds.as_many_actors ∙ ap (λ (trace : Trace). trace.actors) two.same_calls ∙ sym two.holds_too.as_many_actors)
+        all_replies_same run.calls.actors run.calls.calls run.replies other.replies input.numbered one.same_replies
+        (few_replies run.calls.calls run.replies input.holds.are_replies.enough_calls)
+        (few_replies run.calls.calls other.replies
+        (as_of_input (λ contents starts calls. AreReplies contents calls other.replies (channels_of other))
+        input.holds_too.are_replies).enough_calls)
+        (input.holds.as_many_actors ∙ ap (λ (trace : Trace). trace.actors) input.same_calls
+        ∙ sym input.holds_too.as_many_actors)
 
-    one_output : HaveOneOutput head run other
+    pub one_output : HaveOneOutput head run other
     one_output = record {
       same_pasts = pasts_same;
       same_replies = replies_are_same;
       same_dropped = dropped_same;
       same_text = λ i.
-          run_text true (length head.read_levels) (map history_of (pasts_same i)) (kinds_of_trace (two.same_calls i))
+          run_text true (length head.read_levels) (map history_of (pasts_same i)) (kinds_of_trace (input.same_calls i))
           (replies_are_same i) (dropped_same i);
     }
 
 pub choices_decide_output : ChoicesDecideOutput
-choices_decide_output head run other two alike = one_output head run other two alike
+choices_decide_output head run other two alike =
+    one_output head run other two.one_input two.whole.hints two.whole_too.hints
+    (choices_decide_runs (data_in head run) run.starts run.calls.actors run.calls.calls run.replies other.replies
+    (state_of run two.whole.hints) (state_of other two.whole_too.hints) (are_starts head run other two.one_input)
+    two.one_input.numbered (whole_is_serial head run two.one_input.holds two.whole)
+    (as_of_input head run other two.one_input
+    (λ contents starts calls. IsSerialRun contents starts calls other.replies (state_of other two.whole_too.hints))
+    (whole_is_serial head other two.one_input.holds_too two.whole_too)) alike)
 
 -- a view that is told
 record IsTold (view : Option PolicyView) : Type 0 where
@@ -251,42 +252,44 @@ is_told : (view : Option PolicyView) → is_some view ≡ true → IsTold view
 is_told (Some view) e = record { told = view; is = refl }
 is_told None e = absurd (false≢true e)
 
+pub views_alike : (head : Head) (run other : Run) → AreOfOneInput head run other →
+    All (λ start. IsTrue (is_some start.view)) run.starts → All HasNoFault (channels_of run) →
+    All HasNoFault (channels_of other) → RunsChooseAlike (channels_of run) (channels_of other)
+views_alike head run other input told faultless faultless_too channel first second is is_too =
+    let parts = run_parts run.starts run.pasts channel first is in
+    let parts_too = run_parts other.starts other.pasts channel second is_too in
+    let same : first.start ≡ second.start =
+    same_Some first.start second.start
+    (sym parts.0 ∙ ap (λ (starts : List Start). slice_get starts channel) input.same_starts ∙ parts_too.0) in
+    let past : IsPastOf first.start (data_in head run) first.past =
+    all_at (λ (one : ChannelRun). IsPastOf one.start (data_in head run) one.past) (channels_of run) channel first
+    input.holds.are_pasts is in
+    let own : IsPastOf second.start (data_in head other) second.past =
+    all_at (λ (one : ChannelRun). IsPastOf one.start (data_in head other) one.past) (channels_of other) channel second
+    input.holds_too.are_pasts is_too in
+    let past_too : IsPastOf first.start (data_in head run) second.past =
+    subst (λ (start : Start). IsPastOf start (data_in head run) second.past) (sym same)
+    (subst (λ (trace : Trace). IsPastOf second.start (contents_of head.sizes.bytes trace.calls) second.past)
+    (sym input.same_calls) own) in
+    let view : IsTold first.start.view =
+    is_told first.start.view
+    (all_at (λ (start : Start). is_some start.view ≡ true) run.starts channel first.start told parts.0) in
+    let none : HasNoFault first = all_at HasNoFault (channels_of run) channel first faultless is in
+    let none_too : HasNoFault (record { start = first.start; past = second.past }) =
+    subst (λ (start : Start). HasNoFault (record { start = start; past = second.past })) (sym same)
+    (all_at HasNoFault (channels_of other) channel second faultless_too is_too) in
+    views_choose_alike (ladder_of (coding_of first.start.base) first.start (data_in head run)) first.start.base view.told
+    first.past second.past past.is_lawful past_too.is_lawful
+    (subst (λ (option : Option PolicyView). FollowsTold first.start.base option first.past) view.is past.follows)
+    (subst (λ (option : Option PolicyView). FollowsTold first.start.base option second.past) view.is past_too.follows)
+    none none_too
+
 pub views_decide_output : ViewsDecideOutput
 views_decide_output head run other two told faultless faultless_too =
-    one_output head run other two alike
-  where
-    alike : RunsChooseAlike (channels_of run) (channels_of other)
-    alike channel first second is is_too =
-        let parts = run_parts run.starts run.pasts channel first is in
-        let parts_too = run_parts other.starts other.pasts channel second is_too in
-        let same : first.start ≡ second.start =
-        same_Some first.start second.start
-        (sym parts.0 ∙ ap (λ (starts : List Start). slice_get starts channel) two.same_starts ∙ parts_too.0) in
-        let past : IsPastOf first.start (data_in head run) first.past =
-        all_at (λ (one : ChannelRun). IsPastOf one.start (data_in head run) one.past) (channels_of run) channel first
-        two.holds.are_pasts is in
-        let own : IsPastOf second.start (data_in head other) second.past =
-        all_at (λ (one : ChannelRun). IsPastOf one.start (data_in head other) one.past) (channels_of other) channel second
-        two.holds_too.are_pasts is_too in
-        let past_too : IsPastOf first.start (data_in head run) second.past =
-        subst (λ (start : Start). IsPastOf start (data_in head run) second.past) (sym same)
-        (subst (λ (trace : Trace). IsPastOf second.start (contents_of head.sizes.bytes trace.calls) second.past)
-        (sym two.same_calls) own) in
-        let view : IsTold first.start.view =
-        is_told first.start.view
-        (all_at (λ (start : Start). is_some start.view ≡ true) run.starts channel first.start told parts.0) in
-        let none : HasNoFault first = all_at HasNoFault (channels_of run) channel first faultless is in
-        let none_too : HasNoFault (record { start = first.start; past = second.past }) =
-        subst (λ (start : Start). HasNoFault (record { start = start; past = second.past })) (sym same)
-        (all_at HasNoFault (channels_of other) channel second faultless_too is_too) in
-        views_choose_alike (ladder_of (coding_of first.start.base) first.start (data_in head run)) first.start.base view.told
-        first.past second.past past.is_lawful past_too.is_lawful
-        (subst (λ (option : Option PolicyView). FollowsTold first.start.base option first.past) view.is past.follows)
-        (subst (λ (option : Option PolicyView). FollowsTold first.start.base option second.past) view.is past_too.follows)
-        none none_too
+    choices_decide_output head run other two (views_alike head run other two.one_input told faultless faultless_too)
 
 -- where no die's count rose no entry tells of a failed call
-no_faults : (channels : List ChannelRun) (counts : List FaultCounts) → AreCounted channels counts →
+pub no_faults : (channels : List ChannelRun) (counts : List FaultCounts) → AreCounted channels counts →
     NoCountRose channels counts → All HasNoFault channels
 no_faults [] counts counted stay = All-nil HasNoFault
 no_faults (channel ∷ more) [] counted stay = absurd counted
@@ -298,5 +301,5 @@ no_faults (channel ∷ more) (count ∷ others) counted stay =
 pub inputs_decide_output : InputsDecideOutput
 inputs_decide_output head run other two told stay stay_too =
     views_decide_output head run other two told
-    (no_faults (channels_of run) run.faults two.holds.are_counted stay)
-    (no_faults (channels_of other) other.faults two.holds_too.are_counted stay_too)
+    (no_faults (channels_of run) run.faults two.one_input.holds.are_counted stay)
+    (no_faults (channels_of other) other.faults two.one_input.holds_too.are_counted stay_too)

@@ -14,6 +14,7 @@ use Rattle.ssd_geo.specs.declared.entry.Entry.{Entry}
 use Rattle.ssd_geo.specs.declared.kind.Kind.{Kind}
 use Rattle.ssd_geo.specs.declared.slot.Slot.{Slot}
 use Rattle.ssd_geo.specs.declared.tag.Tag.{Tag}
+use Rattle.serial_laws.proofs.LeftLooks.{idle_is_note}
 use Rattle.serial_laws.proofs.MadeCollects.{collect_is_made}
 use Rattle.serial_laws.proofs.MadeWrites.{write_is_made}
 use Rattle.serial_output.specs.SameChoices.{ComesTo}
@@ -22,11 +23,11 @@ use Rattle.serial_output.proofs.RowsApart.{RowsApart}
 use Rattle.serial_output.proofs.SameRounds.{IsSameEnd, rounds_once}
 
 -- what a write does first over a past, by its room
-room_or_needs : (room worn full : Bool) → room ≡ true → (not room && not worn && not full) ≡ true → ⊥
+pub room_or_needs : (room worn full : Bool) → room ≡ true → (not room && not worn && not full) ≡ true → ⊥
 room_or_needs true worn full e f = false≢true f
 room_or_needs false worn full e f = false≢true e
 
-refused_or_needs : (room worn full : Bool) → (worn || full) ≡ true → (not room && not worn && not full) ≡ true → ⊥
+pub refused_or_needs : (room worn full : Bool) → (worn || full) ≡ true → (not room && not worn && not full) ≡ true → ⊥
 refused_or_needs true worn full e f = false≢true f
 refused_or_needs false true full e f = false≢true f
 refused_or_needs false false true e f = false≢true f
@@ -69,11 +70,7 @@ note_form (Kind.Note free victim live pins garbage) e =
     record { free = free; victim = victim; live = live; pins = pins; garbage = garbage; is = refl }
 note_form kind e = absurd (false≢true e)
 
-idle_is_note : (kind : Kind) → is_idle_note kind ≡ true → is_note kind ≡ true
-idle_is_note (Kind.Note free victim live pins garbage) e = refl
-idle_is_note kind e = absurd (false≢true e)
-
-notes_once : (state : ℕ → LadderState) (base : ChannelBase) (past : List Entry) (tag : Tag) (first second : Kind) →
+pub notes_once : (state : ℕ → LadderState) (base : ChannelBase) (past : List Entry) (tag : Tag) (first second : Kind) →
     is_note first ≡ true → is_note second ≡ true → AreRivals state base past tag first second → first ≡ second
 notes_once state base past tag first second one two rivals =
     let f : IsNoteOf first = note_form first one in
@@ -88,7 +85,7 @@ notes_once state base past tag first second one two rivals =
     f.is ∙ (λ i. Kind.Note (frees i) (victims i) (lives i) (pinned i) (left_over i)) ∙ sym s.is
 
 -- how a write goes on, with what is known of what comes after its first part
-data WriteForm (ladder : List Entry → ℕ → LadderState) (base : ChannelBase) (tag : Tag) (row : ℕ)
+pub data WriteForm (ladder : List Entry → ℕ → LadderState) (base : ChannelBase) (tag : Tag) (row : ℕ)
     (before now final : List Entry) (Rest : List Entry → Type 0) : Type 0 where
   wrote : has_host_room base before ≡ true → (slot : Slot) → now ≡ entry_of tag (Kind.Write row slot) ∷ before →
       WriteForm ladder base tag row before now final Rest
@@ -106,7 +103,7 @@ data WriteForm (ladder : List Entry → ℕ → LadderState) (base : ChannelBase
       WriteForm ladder base tag row before now final Rest
 
 -- the same for a collect
-data CollectForm (ladder : List Entry → ℕ → LadderState) (base : ChannelBase) (tag : Tag) (before now final : List Entry)
+pub data CollectForm (ladder : List Entry → ℕ → LadderState) (base : ChannelBase) (tag : Tag) (before now final : List Entry)
     (Rest : List Entry → Type 0) : Type 0 where
   decided : (end : RoundEnd) → SerialRound ladder base tag before now end → decides_collect end ≡ true →
       CollectForm ladder base tag before now final Rest
@@ -122,7 +119,7 @@ module _ (ladder : List Entry → ℕ → LadderState) (base : ChannelBase) (tag
     write_comes {before} {now} write =
         let made = write_is_made ladder base tag row write in steps_come tag before now made.steps made.are_steps
 
-    write_form : (before now final : List Entry) → SerialWrite ladder base tag row before now → ComesTo now final →
+    pub write_form : (before now final : List Entry) → SerialWrite ladder base tag row before now → ComesTo now final →
         WriteForm ladder base tag row before now final (λ between. SerialWrite ladder base tag row between now)
     write_form before now final (writes {slot = slot} room) comes = wrote room slot refl
     write_form before now final (write_faults {slot = slot} {die = die} room) comes = failed room slot die refl
@@ -138,7 +135,7 @@ module _ (ladder : List Entry → ℕ → LadderState) (base : ChannelBase) (tag
   collect_comes {before} {now} collect =
       let made = collect_is_made ladder base tag collect in steps_come tag before now made.steps made.are_steps
 
-  collect_form : (before now final : List Entry) → SerialCollect ladder base tag before now → ComesTo now final →
+  pub collect_form : (before now final : List Entry) → SerialCollect ladder base tag before now → ComesTo now final →
       CollectForm ladder base tag before now final (λ between. SerialCollect ladder base tag between now)
   collect_form before now final (decides {end = end} round is) comes = decided end round is
   collect_form before now final (is_idle {between = between} {note = note} round idle) comes =

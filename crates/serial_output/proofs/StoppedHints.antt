@@ -55,7 +55,7 @@ module _ (contents : List (Tag × List ℕ)) (channels named entries : ℕ) (tag
   cut_takes (Verb.Age channel die sb amount) before after one = cut_on_takes _ named entries _ before after one
 
 -- what holds of all items holds of the first ones
-all_first : {X : Type 0} (P : X → Type 0) (xs ys : List X) → All P (xs ++ ys) → All P xs
+pub all_first : {X : Type 0} (P : X → Type 0) (xs ys : List X) → All P (xs ++ ys) → All P xs
 all_first P [] ys all = All-nil P
 all_first P (x ∷ xs) ys all =
     All-cons P x xs (All-head P x (xs ++ ys) all) (all_first P xs ys (All-tail P x (xs ++ ys) all))

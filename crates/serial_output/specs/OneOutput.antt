@@ -34,13 +34,17 @@ ChoicesDecideRuns =
     IsSerialRun contents starts calls replies after → IsSerialRun contents starts calls others other →
     RunsChooseAlike after.channels other.channels → AreOneRun calls replies others after other
 
--- two runs of one trace from the same starts, whose calls were all served, and of which the statement holds
-pub record AreTwoRuns (head : Head) (run other : Run) : Type 0 where
+-- two runs of one trace from the same starts, of which the statement holds
+pub record AreOfOneInput (head : Head) (run other : Run) : Type 0 where
   pub same_starts : run.starts ≡ other.starts
   pub same_calls : run.calls ≡ other.calls
   pub numbered : AreNumberedAfter run.calls.actors [] run.calls.calls
   pub holds : Headline head run
   pub holds_too : Headline head other
+
+-- and whose calls were all served
+pub record AreTwoRuns (head : Head) (run other : Run) : Type 0 where
+  pub one_input : AreOfOneInput head run other
   pub whole : IsWholeRun head run
   pub whole_too : IsWholeRun head other
 
