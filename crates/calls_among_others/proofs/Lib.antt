@@ -1,0 +1,11 @@
+pub mod ActorsSteps
+pub mod AmongCollects
+pub mod AmongCopies
+pub mod AmongHosts
+pub mod AmongRefreshes
+pub mod AmongRounds
+pub mod AmongSteps
+pub mod AmongWrites
+pub mod HeldVictims
+pub mod LookSteps
+pub mod TwoActors
