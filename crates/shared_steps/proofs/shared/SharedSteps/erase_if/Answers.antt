@@ -1,0 +1,62 @@
+use Rattle.std.proofs.Common.{◌≡◌, ℕ, List, refl}
+use Rattle.chan_calls.specs.Caller.{HasStepRoom}
+use Rattle.chan_calls.specs.Collecting.{MakesErase}
+use Rattle.chan_calls.specs.Stepping.{OfEachBase}
+use Rattle.shared_steps.proofs.AddedEntries.{erase_adds, step_adds}
+use Rattle.shared_steps.proofs.SharedSteps.{after_is, at_most_one, served_by, turn_with}
+use Rattle.shared_steps.proofs.TurnSteps.{erase_shared, goes_on_shared}
+use Rattle.shared_steps.specs.Sharing.{IsTurnOf, pass_held}
+use Rattle.shared_steps.specs.Tracing.{TracedState, stands_just_for, view_of_traced}
+use Rattle.ssd_geo.specs.declared.tag.Tag.{Tag}
+use Rattle.ssd_histories.specs.History.{history_of}
+use Rattle.ssd_histories.specs.Start.{Start}
+use Rattle.turn_table.specs.Passes.{LockState, PassState, TurnState, having_seen, with_value}
+use Rattle.shared_steps.proofs.shared.SharedSteps.erase_if.Goals as goal
+
+pub give-requires-clause-list : goal.give-requires-clause-list
+give-requires-clause-list g c =
+    let lock : LockState Start = c.args.self.now.turns.now in
+    let contents : List (Tag × List ℕ) = g.J.Contents.contents in
+    let pass : PassState = pass_held lock.lock c.args.self.now.pass in
+    let found : TracedState = c.value.result.now in
+    let turn : TurnState TracedState = with_value c.enter-turn.result found in
+    let is : IsTurnOf lock contents pass turn =
+    turn_with lock contents pass c.enter-turn.result found c.value.ensures.value c.enter-turn.ensures in
+    let number : c.args.tag.actor ≡ pass.number = served_by pass.number c.args.tag.actor is.has_number c.requires.actor in
+    let traced : TracedState = c.erase_if-answer.new.self in
+    at_most_one pass turn.pass c.args.tag found.channel.past traced.channel.past is.pass_is number
+    (step_adds c.args.tag (view_of_traced found contents) (view_of_traced traced contents) refl HasStepRoom
+    (MakesErase (OfEachBase (view_of_traced found contents) (stands_just_for found.start contents)) c.args.tag c.args.sb)
+    (erase_adds c.args.tag (OfEachBase (view_of_traced found contents) (stands_just_for found.start contents)) c.args.sb)
+    c.erase_if-answer.result c.erase_if-answer.ensures.made)
+
+pub returns-clause-made : goal.returns-clause-made
+returns-clause-made g c =
+    let lock : LockState Start = c.args.self.now.turns.now in
+    let contents : List (Tag × List ℕ) = g.J.Contents.contents in
+    let pass : PassState = pass_held lock.lock c.args.self.now.pass in
+    let found : TracedState = c.value.result.now in
+    let turn : TurnState TracedState = with_value c.enter-turn.result found in
+    let is : IsTurnOf lock contents pass turn =
+    turn_with lock contents pass c.enter-turn.result found c.value.ensures.value c.enter-turn.ensures in
+    let number : c.args.tag.actor ≡ pass.number = served_by pass.number c.args.tag.actor is.has_number c.requires.actor in
+    let traced : TracedState = c.erase_if-answer.new.self in
+    let seen : c.give.result ≡ having_seen pass (history_of traced.channel.past) =
+    after_is pass turn.pass c.give.result found.channel.past traced.channel.past is.pass_is c.give.ensures in
+    erase_shared lock contents pass c.give.result turn traced is c.args.tag number seen c.args.sb c.erase_if-answer.result
+    c.erase_if-answer.ensures.made
+
+pub returns-clause-goes_on : goal.returns-clause-goes_on
+returns-clause-goes_on g c =
+    let lock : LockState Start = c.args.self.now.turns.now in
+    let contents : List (Tag × List ℕ) = g.J.Contents.contents in
+    let pass : PassState = pass_held lock.lock c.args.self.now.pass in
+    let found : TracedState = c.value.result.now in
+    let turn : TurnState TracedState = with_value c.enter-turn.result found in
+    let is : IsTurnOf lock contents pass turn =
+    turn_with lock contents pass c.enter-turn.result found c.value.ensures.value c.enter-turn.ensures in
+    let number : c.args.tag.actor ≡ pass.number = served_by pass.number c.args.tag.actor is.has_number c.requires.actor in
+    let traced : TracedState = c.erase_if-answer.new.self in
+    let seen : c.give.result ≡ having_seen pass (history_of traced.channel.past) =
+    after_is pass turn.pass c.give.result found.channel.past traced.channel.past is.pass_is c.give.ensures in
+    goes_on_shared lock contents pass c.give.result turn traced is c.args.tag number seen c.erase_if-answer.ensures.goes_on

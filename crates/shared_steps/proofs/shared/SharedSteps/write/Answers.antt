@@ -1,0 +1,101 @@
+use Rattle.std.proofs.Common.{◌≡◌, ℕ, List, refl, length, ◌<◌}
+use Rattle.chan_calls.specs.Caller.{HasStepRoom}
+use Rattle.chan_calls.specs.Stepping.{MakesWrite, OfEachBase}
+use Rattle.shared_steps.proofs.AddedEntries.{step_adds, write_adds}
+use Rattle.shared_steps.proofs.SharedSteps.{after_is, at_most_one, in_shape, is_word, served_by, turn_with}
+use Rattle.shared_steps.proofs.TurnSteps.{write_shared, writes_on_shared}
+use Rattle.shared_steps.specs.Sharing.{IsTurnOf, pass_held}
+use Rattle.shared_steps.specs.Tracing.{TracedState, stands_just_for, view_of_traced}
+use Rattle.ssd_geo.specs.Coding.{word_bytes_in}
+use Rattle.ssd_geo.specs.declared.shape.Shape.{Shape}
+use Rattle.ssd_geo.specs.declared.tag.Tag.{Tag}
+use Rattle.ssd_histories.specs.History.{history_of}
+use Rattle.ssd_histories.specs.Start.{Start}
+use Rattle.turn_table.specs.Passes.{LockState, PassState, TurnState, having_seen, with_value}
+use Rattle.shared_steps.proofs.shared.SharedSteps.write.Goals as goal
+
+pub write-answer-requires-clause-row : goal.write-answer-requires-clause-row
+write-answer-requires-clause-row g c =
+    let lock : LockState Start = c.args.self.now.turns.now in
+    let contents : List (Tag × List ℕ) = g.J.Contents.contents in
+    let pass : PassState = pass_held lock.lock c.args.self.now.pass in
+    let found : TracedState = c.value.result.now in
+    let turn : TurnState TracedState = with_value c.enter-turn.result found in
+    let is : IsTurnOf lock contents pass turn =
+    turn_with lock contents pass c.enter-turn.result found c.value.ensures.value c.enter-turn.ensures in
+    let number : c.args.tag.actor ≡ pass.number = served_by pass.number c.args.tag.actor is.has_number c.requires.actor in
+    in_shape lock contents pass turn is c.args.tag number (λ (shape : Shape). c.args.row < shape.rows) c.requires.row
+
+pub write-answer-requires-clause-word : goal.write-answer-requires-clause-word
+write-answer-requires-clause-word g c =
+    let lock : LockState Start = c.args.self.now.turns.now in
+    let contents : List (Tag × List ℕ) = g.J.Contents.contents in
+    let pass : PassState = pass_held lock.lock c.args.self.now.pass in
+    let found : TracedState = c.value.result.now in
+    let turn : TurnState TracedState = with_value c.enter-turn.result found in
+    let is : IsTurnOf lock contents pass turn =
+    turn_with lock contents pass c.enter-turn.result found c.value.ensures.value c.enter-turn.ensures in
+    let number : c.args.tag.actor ≡ pass.number = served_by pass.number c.args.tag.actor is.has_number c.requires.actor in
+    in_shape lock contents pass turn is c.args.tag number (λ (shape : Shape). length c.args.word.now ≡ word_bytes_in shape)
+    c.requires.word
+
+pub write-answer-requires-clause-of_call : goal.write-answer-requires-clause-of_call
+write-answer-requires-clause-of_call g c =
+    let lock : LockState Start = c.args.self.now.turns.now in
+    let contents : List (Tag × List ℕ) = g.J.Contents.contents in
+    let pass : PassState = pass_held lock.lock c.args.self.now.pass in
+    let found : TracedState = c.value.result.now in
+    let turn : TurnState TracedState = with_value c.enter-turn.result found in
+    let is : IsTurnOf lock contents pass turn =
+    turn_with lock contents pass c.enter-turn.result found c.value.ensures.value c.enter-turn.ensures in
+    let number : c.args.tag.actor ≡ pass.number = served_by pass.number c.args.tag.actor is.has_number c.requires.actor in
+    is_word lock contents pass turn is c.args.tag number c.args.row c.args.word.now c.requires.of_call
+
+pub give-requires-clause-list : goal.give-requires-clause-list
+give-requires-clause-list g c =
+    let lock : LockState Start = c.args.self.now.turns.now in
+    let contents : List (Tag × List ℕ) = g.J.Contents.contents in
+    let pass : PassState = pass_held lock.lock c.args.self.now.pass in
+    let found : TracedState = c.value.result.now in
+    let turn : TurnState TracedState = with_value c.enter-turn.result found in
+    let is : IsTurnOf lock contents pass turn =
+    turn_with lock contents pass c.enter-turn.result found c.value.ensures.value c.enter-turn.ensures in
+    let number : c.args.tag.actor ≡ pass.number = served_by pass.number c.args.tag.actor is.has_number c.requires.actor in
+    let traced : TracedState = c.write-answer.new.self in
+    at_most_one pass turn.pass c.args.tag found.channel.past traced.channel.past is.pass_is number
+    (step_adds c.args.tag (view_of_traced found contents) (view_of_traced traced contents) refl HasStepRoom
+    (MakesWrite (OfEachBase (view_of_traced found contents) (stands_just_for found.start contents)) c.args.tag c.args.row)
+    (write_adds c.args.tag (OfEachBase (view_of_traced found contents) (stands_just_for found.start contents)) c.args.row)
+    c.write-answer.result c.write-answer.ensures.made)
+
+pub returns-clause-made : goal.returns-clause-made
+returns-clause-made g c =
+    let lock : LockState Start = c.args.self.now.turns.now in
+    let contents : List (Tag × List ℕ) = g.J.Contents.contents in
+    let pass : PassState = pass_held lock.lock c.args.self.now.pass in
+    let found : TracedState = c.value.result.now in
+    let turn : TurnState TracedState = with_value c.enter-turn.result found in
+    let is : IsTurnOf lock contents pass turn =
+    turn_with lock contents pass c.enter-turn.result found c.value.ensures.value c.enter-turn.ensures in
+    let number : c.args.tag.actor ≡ pass.number = served_by pass.number c.args.tag.actor is.has_number c.requires.actor in
+    let traced : TracedState = c.write-answer.new.self in
+    let seen : c.give.result ≡ having_seen pass (history_of traced.channel.past) =
+    after_is pass turn.pass c.give.result found.channel.past traced.channel.past is.pass_is c.give.ensures in
+    write_shared lock contents pass c.give.result turn traced is c.args.tag number seen c.args.row c.write-answer.result
+    c.write-answer.ensures.made
+
+pub returns-clause-goes_on : goal.returns-clause-goes_on
+returns-clause-goes_on g c =
+    let lock : LockState Start = c.args.self.now.turns.now in
+    let contents : List (Tag × List ℕ) = g.J.Contents.contents in
+    let pass : PassState = pass_held lock.lock c.args.self.now.pass in
+    let found : TracedState = c.value.result.now in
+    let turn : TurnState TracedState = with_value c.enter-turn.result found in
+    let is : IsTurnOf lock contents pass turn =
+    turn_with lock contents pass c.enter-turn.result found c.value.ensures.value c.enter-turn.ensures in
+    let number : c.args.tag.actor ≡ pass.number = served_by pass.number c.args.tag.actor is.has_number c.requires.actor in
+    let traced : TracedState = c.write-answer.new.self in
+    let seen : c.give.result ≡ having_seen pass (history_of traced.channel.past) =
+    after_is pass turn.pass c.give.result found.channel.past traced.channel.past is.pass_is c.give.ensures in
+    writes_on_shared lock contents pass c.give.result turn traced is c.args.tag number seen c.args.row c.args.word.now
+    c.write-answer.ensures.goes_on
