@@ -1,0 +1,3 @@
+mod CollectingCalls
+mod LoadedStart
+mod LoneCalls

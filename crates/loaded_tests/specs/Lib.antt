@@ -1,0 +1,4 @@
+pub mod LoadedChannel
+pub mod LoadedDies
+pub mod LoadedWorker
+pub mod LoneCaller
