@@ -4,12 +4,13 @@ use Rattle.std.specs.List.{range_with_len}
 use Rattle.std.specs.Option.{unwrap_or}
 use Rattle.ssd_geo.specs.BlockCells.{BlockCells, blank_cells}
 use Rattle.chan_dies.specs.DiesState.{blocks_in}
+use Rattle.contents_start.specs.ContentsStart.{AreOfContents}
 use Rattle.onfi_cmd.specs.DieState.{DieState}
 use Rattle.ssd_formats.specs.ImageContents.{IsBaseOf, SavedBlock, are_saved_rows, blocks_of_saved, cells_of_block, cells_of_saved}
 use Rattle.ssd_formats.specs.ImageHead.{Head}
 use Rattle.ssd_geo.specs.declared.base.ChannelBase.{ChannelBase}
 use Rattle.ssd_geo.specs.declared.row.Row.{Row}
-use Rattle.image_contents.specs.Taken.{AreOfContents, AreTaken}
+use Rattle.image_contents.specs.Taken.{AreTaken}
 
 -- a list whose items are given by their numbers
 pub numbered : {A B : Type 0} (f : ℕ → B) (g : A → B) (xs : List A) (start n : ℕ) → length xs ≡ n

@@ -1,14 +1,13 @@
--- What does a channel have once its contents were taken over from an image? Its base and the cells of its dies are those of
--- contents that have a spelling.
+-- What does a channel have once superblocks of its contents were taken over from an image? Each may stand in an image, and its
+-- dies have their cells.
 use Rattle.std.specs.Prelude.{◌≡◌, ℕ, ◌-◌, IsTrue, if◌then◌else◌, List, [], ◌++◌, length, map, replicate, slice_get, slice_set, Some}
 use Rattle.ssd_geo.specs.BlockCells.{blank_cells}
 use Rattle.drive_dies.specs.Mounting.{EachBecomes}
 use Rattle.chan_dies.specs.DiesState.{blocks_in}
 use Rattle.onfi_cmd.specs.DieState.{DieState}
-use Rattle.ssd_formats.specs.ImageContents.{ChannelImage, IsBaseOf, IsSaved, SavedBlock, are_saved_blocks, blocks_of_saved, cells_of_block, cells_of_saved, is_saved_block, is_stripe_open, sum_of_saved}
+use Rattle.ssd_formats.specs.ImageContents.{SavedBlock, are_saved_blocks, blocks_of_saved, cells_of_block, is_saved_block, is_stripe_open, sum_of_saved}
 use Rattle.ssd_formats.specs.ImageHead.{Head}
 use Rattle.ssd_geo.specs.declared.base.BlockBase.{BlockBase}
-use Rattle.ssd_geo.specs.declared.base.ChannelBase.{ChannelBase}
 
 -- the dies and the sum after one superblock more was taken over, behind those before: it may stand in an image, each die has
 -- its cells in the place of what it had there, and the sum is that of its open stripe, if it has one
@@ -29,9 +28,3 @@ pub record AreTaken (head : Head) (channel : ℕ) (saved : List SavedBlock) (die
       → die.told
       ≡ Some (map (cells_of_block number) saved ++ replicate (head.sizes.superblocks - length saved) blank_cells)
   pub sum_is : sum ≡ sum_of_saved head.sizes (record { blocks = saved; rows = [] })
-
--- a base and dies are those of contents of a channel
-pub record AreOfContents (head : Head) (channel : ℕ) (saved : ChannelImage) (base : ChannelBase) (dies : List DieState) : Type 0 where
-  pub is_saved : IsSaved head channel saved
-  pub is_base : IsBaseOf head channel saved base
-  pub cells_are : map blocks_in dies ≡ cells_of_saved head.sizes saved

@@ -1,11 +1,11 @@
 // The contents of one channel.
 ghost use Rattle.std.specs.Prelude.{◌≡◌, ◌+◌, ◌*◌, ◌^◌, ◌<◌, ◌≤◌, IfOk, OnErr, OnOk, map};
+ghost use Rattle.contents_start.specs.ContentsStart.{AreOfContents};
 ghost use Rattle.ssd_formats.specs.ImageContents.{channel_fields, read_channel};
 ghost use Rattle.ssd_formats.specs.ImageHead.{IsHead, head_of};
 ghost use Rattle.drive_dies.specs.Mounting.{AreDiesOf};
 ghost use Rattle.image_contents.specs.DiesLoaded.{BecomeLoaded};
 ghost use Rattle.image_contents.specs.Loads.{Loads};
-ghost use Rattle.image_contents.specs.Taken.{AreOfContents};
 
 use crate::blocks::read_blocks;
 use crate::rows::read_rows;

@@ -14,5 +14,5 @@ returns-in-Ok-clause-read g c =
     let blank : head.full ≡ false = search rules in
     let read : read_channel head c.args.channel rest ≡ Ok (blank_channel head c.args.channel, rest) = rw blank refl in
     all_read _ left left _ _ c.args.head.now.place c.args.head.now.place c.in-Ok.base (blank_channel head c.args.channel) (read_channel head c.args.channel) refl
-    (blank_contents c.args.head.now c.args.channel c.in-Ok.base (map g.D.Die.state c.args.dies.now) c.requires.dies c.in-Ok.ensures.base)
+    (blank_contents c.args.head.now c.args.channel c.in-Ok.base (map g.D.Die.state c.args.dies.now) c.requires.head c.requires.dies c.in-Ok.ensures.base)
     (λ told. (told, read))

@@ -1,0 +1,2 @@
+pub mod BegunRows
+pub mod DriveDies

@@ -1,0 +1,4 @@
+pub mod BlankDrives
+pub mod LentPart
+pub mod LoadSteps
+pub mod Pieces
