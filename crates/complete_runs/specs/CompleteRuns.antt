@@ -1,7 +1,7 @@
--- When is a run of a blank drive complete? Where no die counted a fault, no reply tells of one; each write is done, where the
--- drive has no weak block; and each read answers what its row holds, where the first read level tells the cells apart and no
--- call ages a block. Where all this is so, a read answers what the calls before it in the trace left in its page. The law is
--- the contract of a function without a body.
+-- When is a run complete? Where no die counted a fault, no reply tells of one. Of a drive that began blank more is said then: each
+-- write is done, where the drive has no weak block; and each read answers what its row holds, where the first read level tells
+-- the cells apart and no call ages a block. Where all this is so, a read answers what the calls before it in the trace left in
+-- its page. The law is the contract of a function without a body.
 use Rattle.std.specs.Prelude.{◌≡◌, ◌<◌, false, [], length, All}
 use Rattle.ssd_formats.specs.ImageHead.{Head}
 use Rattle.run_laws.specs.Headline.{Headline}
@@ -18,18 +18,18 @@ use Rattle.complete_runs.specs.UncountedRuns.{AreAnswered, CountNone, tells_faul
 pub record IsComplete (head : Head) (run : Run) : Type 0 where
   pub no_fault : CountNone (channels_of run) run.faults → AreAnswered run (λ call reply. tells_fault reply ≡ false)
   pub writes :
-      CountNone (channels_of run) run.faults → head.weak ≡ [] → AreAnswered run (λ call reply. IsDone call.verb reply)
+      head.full ≡ false → CountNone (channels_of run) run.faults → head.weak ≡ [] → AreAnswered run (λ call reply. IsDone call.verb reply)
   pub reads :
-      CountNone (channels_of run) run.faults → TellsApart head.read_levels head.law →
+      head.full ≡ false → CountNone (channels_of run) run.faults → TellsApart head.read_levels head.law →
       All (λ call. AgesNone call.verb) run.calls.calls →
       AreAnswered run (λ call reply. ReadsAnswerPlain (data_in head run) (channels_of run) call.tag call.verb reply)
   pub traces :
-      CountNone (channels_of run) run.faults → head.weak ≡ [] → TellsApart head.read_levels head.law →
+      head.full ≡ false → CountNone (channels_of run) run.faults → head.weak ≡ [] → TellsApart head.read_levels head.law →
       All (λ call. AgesNone call.verb) run.calls.calls → HasEnded head run →
       AreAnsweredHeld run.replies head.sizes.bytes [] run.calls.calls
 
--- as each is that began with a blank drive, and of which the statement holds
-abbrev pub BlankRunsAreComplete : Type 0
-BlankRunsAreComplete =
-    (head : Head) (run : Run) → 0 < length run.starts → BeginsBlank head run → HasCalls head run → Headline head run →
-    IsComplete head run
+-- as each is of which the statement holds, and which began with a blank drive where its image has no contents
+abbrev pub RunsAreComplete : Type 0
+RunsAreComplete =
+    (head : Head) (run : Run) → 0 < length run.starts → (head.full ≡ false → BeginsBlank head run) → HasCalls head run →
+    Headline head run → IsComplete head run
