@@ -68,10 +68,19 @@ fn dies_with(alloc: Global, faults: &[Faults]) -> Result<Vec<TriedDie>, AllocErr
     Ok(dies)
 }
 
-/// The status and the output of a run over these bytes, whose source and sink fail at the listed calls, and whose dies do.
+// The words of a line, with single spaces between.
+fn words_of(alloc: Global, line: &str) -> Result<Vec<Word>, AllocError> {
+    let mut words = Vec::new(alloc);
+    for text in line.split(' ') {
+        words.push(Word::new(String::from_str(alloc, text)?))?;
+    }
+    Ok(words)
+}
+
+/// The status and the output of a command over these bytes, whose source and sink fail at the listed calls, and whose dies do.
 pub(crate) fn outcome_over(
     alloc: Global,
-    word: &str,
+    line: &str,
     bytes: Vec<u8>,
     reads: u64,
     writes: u64,
@@ -85,7 +94,7 @@ pub(crate) fn outcome_over(
         room,
     )
     .map_err(|_| "no memory")?;
-    let words = vec![in alloc; Word::new(String::from_str(alloc, word)?)]?;
+    let words = words_of(alloc, line)?;
     let dies = dies_with(alloc, faults)?;
     let mut policies: Vec<Box<dyn Policy + Send>> = Vec::with_capacity(alloc, CHANNELS as usize)?;
     for _ in 0..CHANNELS {
@@ -101,7 +110,7 @@ pub(crate) fn outcome_over(
 /// The same over the image, with one byte of it changed, and this trace, with dies that don't fail.
 pub(crate) fn outcome(
     alloc: Global,
-    word: &str,
+    line: &str,
     change: (usize, u8),
     trace: &[u8],
     reads: u64,
@@ -113,5 +122,5 @@ pub(crate) fn outcome(
         *byte = change.1;
     }
     bytes.extend_from_slice(trace)?;
-    outcome_over(alloc, word, bytes, reads, writes, room, &[])
+    outcome_over(alloc, line, bytes, reads, writes, room, &[])
 }

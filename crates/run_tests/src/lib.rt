@@ -2,6 +2,10 @@
 #![tactic(auto)]
 
 #[cfg(test)]
+mod commands;
+#[cfg(test)]
+mod contents;
+#[cfg(test)]
 mod drains;
 #[cfg(test)]
 mod drives;

@@ -1,4 +1,4 @@
-//! Rows that were worked out by hand, what isn't served, and what a failing sink gets.
+//! Runs that were worked out by hand, what isn't served, and what a failing sink gets.
 use crate::drives::{SAME, outcome};
 use image_file::ImageFault;
 use ssd_top::{Status, status_text};
@@ -251,8 +251,16 @@ fn trace(line: u64, fault: TraceFault) -> Status {
 // What isn't served: refused words, faults, and what isn't built. Nothing is written.
 #[test]
 fn what_is_not_served_writes_nothing(rt: HostRuntime) -> Result<(), Fail> {
-    let table: [(&str, (usize, u8), &[u8], u64, Status); 11] = [
-        ("save", SAME, TRACE, 0, Status::Words),
+    let table: [(&str, (usize, u8), &[u8], u64, Status); 19] = [
+        ("save", SAME, TRACE, 0, Status::NotBuilt),
+        ("race", SAME, TRACE, 0, Status::Words),
+        ("race --show=summary", SAME, TRACE, 0, Status::Words),
+        ("run --lanes=3", SAME, TRACE, 0, Status::Words),
+        ("run --lanes=4 --lanes=4", SAME, TRACE, 0, Status::Words),
+        ("format --lanes=4", SAME, TRACE, 0, Status::Words),
+        ("gen", SAME, TRACE, 0, Status::Words),
+        ("format", (92, 1), TRACE, 0, image(93, ImageFault::State)),
+        ("format", (8, 0), TRACE, 0, image(8, ImageFault::Range)),
         ("", SAME, TRACE, 0, Status::Words),
         ("run", SAME, TRACE, 1, Status::ReadFault),
         ("run", (0, b'T'), TRACE, 0, image(0, ImageFault::Magic)),
@@ -273,12 +281,12 @@ fn what_is_not_served_writes_nothing(rt: HostRuntime) -> Result<(), Fail> {
             0,
             trace(2, TraceFault::Data),
         ),
-        ("run", (92, 1), b"", 0, Status::NotBuilt),
+        ("run", (92, 1), b"", 0, image(93, ImageFault::Short)),
         ("run", (49, 0x80), TRACE, 0, image(48, ImageFault::Range)),
     ];
-    for (word, change, trace, reads, want) in table {
-        let (status, output) = outcome(rt.alloc(), word, change, trace, reads, 99, 4096)?;
-        assert_eq!(rt; status, want);
+    for (line, change, trace, reads, want) in table {
+        let (status, output) = outcome(rt.alloc(), line, change, trace, reads, 99, 4096)?;
+        assert_eq!(rt; status, want, "{line}");
         assert_eq!(rt; output.bytes(), b"".as_slice());
     }
     Ok(())

@@ -1,5 +1,5 @@
-//! The program: it hands the words of the command line, standard input and output, simulated dies and the policy of most garbage
-//! to the top call, and tells its caller how that ended.
+//! The program: it hands the words of the command line, standard input and output, simulated dies and the policies that the
+//! words name to the top call, and tells its caller how that ended.
 #![tactic(auto)]
 
 ghost use Rattle.std.specs.Prelude.{IfOk, map};
@@ -7,14 +7,14 @@ ghost use Rattle.ssd_top.specs.HandedBack.{AreHandedIn};
 
 use die_model::SimDie;
 use onfi_cmd::Die;
-use ssd_geo::Word;
+use ssd_geo::{PolicyKind, Word};
 use ssd_io::{ReadSource, WriteSink};
-use ssd_top::{Status, run, status_text};
+use ssd_top::{Status, policy_of, run, status_text};
 use std::alloc::{AllocError, Global};
 use std::io::{self, BufWriter, ErrorKind, Write};
 use std::process::ExitCode;
 use std::rt::Env;
-use victim::{Greedy, Policy};
+use victim::{Greedy, Oldest, Policy, RoundRobin};
 
 // The words of the command line behind the program's own. A list that can't be had has no word, and so is refused,
 // but for one that wants for memory.
@@ -57,12 +57,23 @@ fn serve<R: Env + AllocGlobal + Input + Print>(rt: &R) -> Result<Status, AllocEr
     };
     let mut output = WriteSink::new(&mut writer);
     let dies = dies_of(rt.alloc())?;
+    let kind = policy_of(&words);
     let mut policies: Vec<Box<dyn Policy + Send>> = Vec::with_capacity(
         rt.alloc(),
         CHANNELS as usize,
     )?;
     for _ in 0..CHANNELS {
-        policies.push_reserved(Box::new(rt.alloc(), Greedy::new())?);
+        match kind {
+            PolicyKind::Greedy => {
+                policies.push_reserved(Box::new(rt.alloc(), Greedy::new())?);
+            }
+            PolicyKind::Oldest => {
+                policies.push_reserved(Box::new(rt.alloc(), Oldest::new())?);
+            }
+            PolicyKind::RoundRobin => {
+                policies.push_reserved(Box::new(rt.alloc(), RoundRobin::new())?);
+            }
+        }
     }
     let ended = run(rt.alloc(), &words, &mut input, &mut output, dies, policies);
     let status = ended.status;
@@ -72,11 +83,16 @@ fn serve<R: Env + AllocGlobal + Input + Print>(rt: &R) -> Result<Status, AllocEr
     }
 }
 
+// What is told where memory for a line is refused.
+const NO_MEMORY: &[u8] = b"out of memory\n";
+
 fn main(rt: HostRuntime) -> ExitCode {
     let status = serve(&rt).unwrap_or(Status::OutOfMemory);
     let mut text = Vec::new(rt.alloc());
-    if status_text(&status, &mut text).is_ok() {
-        let _ = rt.stderr().write_all(&text);
-    }
+    let line = match status_text(&status, &mut text) {
+        Ok(()) => text.as_slice(),
+        Err(_) => NO_MEMORY,
+    };
+    let _ = rt.stderr().write_all(line);
     ExitCode::from(status.number())
 }

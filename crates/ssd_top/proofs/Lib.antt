@@ -1,6 +1,6 @@
 pub mod BegunRuns
-pub mod BlankInputs
 pub mod DriveCodes
+pub mod DriveInputs
 pub mod EndedChannels
 pub mod FaultTexts
 pub mod FittingTraces
@@ -10,9 +10,11 @@ pub mod PrintedRuns
 pub mod PrintedText
 pub mod ReadInputs
 pub mod RunningCalls
+pub mod SavedInputs
 pub mod ServedChannels
 pub mod ServedEnds
 pub mod ServedRuns
 pub mod ServedVerbs
 pub mod SmallBytes
+pub mod TopCommands
 pub mod TraceRuns

@@ -1,4 +1,4 @@
--- The channels of a run of a blank drive, after all its calls or where it stopped: each stands for the start of its number, and
+-- The channels of a run, after all its calls or where it stopped: each stands for the start of its number, and
 -- its dies, which it gives back, hold what its past says and counted the faults of which that tells.
 use Rattle.std.proofs.Common.{ℕ, zero, suc, ◌≡◌, ◌+◌, ◌*◌, ◌<◌, ◌≤◌, inl, inr, List, [], ◌∷◌, ◌++◌, drop, length, map, min, take, Some, Option, refl, sym, ap, subst, ◌∙◌, add-zero, arith}
 use Rattle.std.proofs.lemmas.Option.{get_or_from_slice_get}
@@ -17,7 +17,7 @@ use Rattle.run_laws.specs.Headline.{AreCounted, CountsAll}
 use Rattle.run_laws.specs.Runs.{FaultCounts, runs_with}
 use Rattle.run_laws.specs.ServedRuns.{contents_in}
 use Rattle.run_laws.specs.Starts.{Handed, start_of, starts_from, starts_of}
-use Rattle.ssd_formats.specs.ImageContents.{ChannelImage, blank_channel}
+use Rattle.ssd_formats.specs.ImageContents.{ChannelImage}
 use Rattle.ssd_formats.specs.ImageHead.{Head}
 use Rattle.ssd_geo.specs.Faults.{RoseBy, greatest_count}
 use Rattle.ssd_geo.specs.Limits.{Sizes}
@@ -31,8 +31,7 @@ use Rattle.ssd_geo.specs.declared.tag.Tag.{Tag}
 use Rattle.ssd_geo.specs.declared.trace.Trace.{Trace}
 use Rattle.ssd_top.proofs.GivenDies as Given
 use Rattle.ssd_top.proofs.GivenDies.{IsInPiece, count_in_part, in_piece_or_old, piece_at}
-use Rattle.ssd_top.specs.Forms.{blank_input}
-use Rattle.ssd_top.specs.Handed.{history_limit}
+use Rattle.ssd_top.specs.Forms.{input_of}
 use Rattle.ssd_top.specs.HandedBack.{AllCountRuns, CountsRun}
 use Rattle.ssd_top.specs.Serving.{GiveBack}
 
@@ -118,11 +117,11 @@ hold_from contents count dies from (start ∷ starts) (channel ∷ channels) eac
 rose_by_none : (faults before now most : ℕ) → min (before + faults) most ≤ now → min (before + 0) most ≤ now
 rose_by_none faults before now most rose = omega (arith, rose)
 
-stays_at : (before most : ℕ) → min (before + 0) most ≤ before
+pub stays_at : (before most : ℕ) → min (before + 0) most ≤ before
 stays_at before most = omega arith
 
 -- the counts of a die that didn't change
-same_counts_run : (old new : DieState) → new ≡ old → CountsRun old new
+pub same_counts_run : (old new : DieState) → new ≡ old → CountsRun old new
 same_counts_run old new same =
     subst (λ (die : DieState). CountsRun old die) (sym same)
     (record { loads_stay = refl; works_rose = stays_at old.work_count greatest_count })
@@ -139,22 +138,23 @@ counts_run start faults die work load old new works loads is_work is_load rose s
       (subst (λ (now : ℕ). RoseBy faults (count_at start.work_faults die) now) is_work rose));
 }
 
-module _ (head : Head) (asked : Trace) (dies : List DieState) (views : List (Option PolicyView)) where
-  -- these channels stand for the starts of a run on the blank drive of a head
+module _ (head : Head) (saved : ℕ → ChannelImage) (asked : Trace) (limit : ℕ) (dies : List DieState)
+    (views : List (Option PolicyView)) where
+  -- these channels stand for the starts of a run on the drive of which an image tells this
   pub record StandInRun (worker : WorkerState) (channels : List SeenChannel) (starts : List Start) : Type 0 where
     pub starts_are :
         starts
-        ≡ starts_of worker.shape head history_limit (blank_input head asked).channels
+        ≡ starts_of worker.shape head limit (input_of head saved asked).channels
         (handed_by_channel head.sizes.channels head.sizes.dies (counts_of dies) views)
     pub sizes_are : sizes_of worker.shape ≡ head.sizes
-    pub standing : AreStanding worker channels starts (contents_in (blank_input head asked))
+    pub standing : AreStanding worker channels starts (contents_in (input_of head saved asked))
 
   module _ (worker : WorkerState) (channels : List SeenChannel) (starts : List Start)
       (stand : StandInRun worker channels starts) where
     pub many_starts : length starts ≡ head.sizes.channels
     many_starts =
         ap (λ (list : List Start). length list) stand.starts_are
-        ∙ as_many_starts worker.shape head history_limit (blank_channel head)
+        ∙ as_many_starts worker.shape head limit saved
         (handed_to head.sizes.dies (counts_of dies) views) 0 head.sizes.channels
 
     pub many_channels : length channels ≡ head.sizes.channels
@@ -163,15 +163,15 @@ module _ (head : Head) (asked : Trace) (dies : List DieState) (views : List (Opt
     -- the start of a number has the counts of that channel's dies, and as many dies
     start_is : (number : ℕ) (start : Start) → slice_get starts number ≡ Some start
         → start
-        ≡ start_of worker.shape head history_limit number (blank_channel head number)
+        ≡ start_of worker.shape head limit number (saved number)
         (handed_to head.sizes.dies (counts_of dies) views number)
     start_is number start there =
         let of_number : ℕ → Start = λ (n : ℕ).
-        start_of worker.shape head history_limit n (blank_channel head n)
+        start_of worker.shape head limit n (saved n)
         (handed_to head.sizes.dies (counts_of dies) views n) in
         let here : 0 + number ≡ number = omega arith in
         subst (λ (n : ℕ). start ≡ of_number n) here
-        (start_at worker.shape head history_limit (blank_channel head) (handed_to head.sizes.dies (counts_of dies) views)
+        (start_at worker.shape head limit saved (handed_to head.sizes.dies (counts_of dies) views)
         head.sizes.channels 0 number start
         (subst (λ (list : List Start). slice_get list number ≡ Some start) stand.starts_are there))
 
@@ -183,9 +183,9 @@ module _ (head : Head) (asked : Trace) (dies : List DieState) (views : List (Opt
     -- the dies of a channel hold and count what its past says
     pub hold_and_count : (n : ℕ) (start : Start) (channel : SeenChannel) → slice_get starts n ≡ Some start
         → slice_get channels n ≡ Some channel
-        → HoldAndCount (contents_in (blank_input head asked)) (run_with start channel) channel.kept.dies
+        → HoldAndCount (contents_in (input_of head saved asked)) (run_with start channel) channel.kept.dies
     hold_and_count n start channel has_start has_channel =
-        fitting_dies_hold start (contents_in (blank_input head asked)) channel.kept.past channel.kept.dies channel.kept.sum
+        fitting_dies_hold start (contents_in (input_of head saved asked)) channel.kept.past channel.kept.dies channel.kept.sum
         (stand.standing.stand n start channel has_start has_channel).dies_fit
 
     -- they are given back
@@ -228,9 +228,9 @@ module _ (head : Head) (asked : Trace) (dies : List DieState) (views : List (Opt
           (hold_and_count n start channel has_start has_channel).count)))
 
       pub hold_pasts :
-          HoldPasts (contents_in (blank_input head asked)) head.sizes.dies back (runs_with starts (pasts_of channels))
+          HoldPasts (contents_in (input_of head saved asked)) head.sizes.dies back (runs_with starts (pasts_of channels))
       hold_pasts =
-          let contents : List (Tag × List ℕ) = contents_in (blank_input head asked) in
+          let contents : List (Tag × List ℕ) = contents_in (input_of head saved asked) in
           hold_from contents head.sizes.dies back 0 starts channels
           (from_first (HoldAt contents head.sizes.dies back) starts channels
           (λ n start channel has_start has_channel.

@@ -1,20 +1,22 @@
 -- How the calls of an input ended, by what they led its channels to and what these gave back.
-use Rattle.std.proofs.Common.{◌≡◌, ◌≤◌, List, [], ◌++◌, All, drop, flat_map, length, map, replicate, Option, Ok, refl, subst}
+use Rattle.std.proofs.Common.{ℕ, ◌≡◌, ◌≤◌, List, [], ◌++◌, All, drop, flat_map, length, map, replicate, Option, Ok, refl, subst}
 use Rattle.chan_calls.specs.Workers.{WorkerState}
 use Rattle.chan_state.specs.ChannelState.{ChannelState}
 use Rattle.ctl.specs.Seen.{SeenChannel, seen}
 use Rattle.drive_dies.specs.Mounting.{die_count}
 use Rattle.onfi_cmd.specs.DieState.{DieState}
+use Rattle.ssd_formats.specs.ImageContents.{ChannelImage}
 use Rattle.ssd_formats.specs.ImageHead.{IsHead, head_of}
 use Rattle.ssd_formats.specs.Input.{Input}
+use Rattle.ssd_formats.specs.Words.{Settings}
 use Rattle.ssd_geo.specs.declared.entry.Entry.{Entry}
 use Rattle.ssd_geo.specs.declared.head.ImageHead.{ImageHead}
 use Rattle.ssd_geo.specs.declared.policy_view.PolicyView.{PolicyView}
 use Rattle.ssd_geo.specs.declared.trace.Trace.{Trace}
 use Rattle.ssd_histories.specs.History.{history_of}
 use Rattle.ssd_top.proofs.EndedChannels.{count_of_led, gave_back, histories_of}
-use Rattle.ssd_top.proofs.ServedRuns.{served_dies_count, served_is_of_input}
-use Rattle.ssd_top.specs.Forms.{blank_input}
+use Rattle.ssd_top.proofs.ServedRuns.{IsSavedAs, served_dies_count, served_is_of_input}
+use Rattle.ssd_top.specs.Forms.{input_of}
 use Rattle.ssd_top.specs.Running.{IsRunning, Job}
 use Rattle.ssd_top.specs.Serving.{IsMadeOf, IsServed, LeadsTo, RunsToEnd, ServesInput, job_of}
 use Rattle.ssd_top.specs.declared.printed.Printed.{Printed}
@@ -24,18 +26,19 @@ use Rattle.ssd_top.specs.declared.serving.Answered.{Answered}
 -- their dies and histories
 module _ {A X : Type 0} (old written items : List A) (dies left back : List X) (kept : A → ChannelState)
     (view : A → Option PolicyView)
-    (state : X → DieState) (head : ImageHead) (is_head : IsHead (head_of head)) (trace : Trace)
+    (state : X → DieState) (head : ImageHead) (is_head : IsHead (head_of head))
+    (saved : ℕ → ChannelImage) (saved_as : IsSavedAs (head_of head) saved) (settings : Settings) (trace : Trace)
     (views : List (Option PolicyView))
     (enough : die_count head ≤ length (map state dies)) (worker : WorkerState) (same : written ≡ items)
-    (running : IsRunning (job_of (blank_input (head_of head) trace) (map state dies) views) worker
+    (running : IsRunning (job_of (input_of (head_of head) saved trace) settings.history (map state dies) views) worker
     (map (λ item. seen (kept item) (view item)) old) [] (replicate trace.actors []) [] 0)
     (all : All (λ item. length (kept item).dies ≡ (kept item).shape.dies) items) (left_are : left ≡ drop (die_count head) dies)
     (back_are : map state back ≡ flat_map (λ item. (kept item).dies) items ++ map state left) where
   abbrev input : Input
-  input = blank_input (head_of head) trace
+  input = input_of (head_of head) saved trace
 
   abbrev job : Job
-  job = job_of input (map state dies) views
+  job = job_of input settings.history (map state dies) views
 
   abbrev channels_in : List A → List SeenChannel
   channels_in list = map (λ item. seen (kept item) (view item)) list
@@ -43,15 +46,15 @@ module _ {A X : Type 0} (old written items : List A) (dies left back : List X) (
   -- all calls were answered, or those before a stop, and this is to be printed
   pub serves : (histories : List (List Entry)) (answered : Answered) (printed : Printed)
       → histories ≡ map (λ item. history_of (kept item).past) items
-      → RunsToEnd worker (channels_in old) (channels_in written) trace answered → IsMadeOf head trace histories answered printed
-      → ServesInput input (map state dies) views (map state back) (Ok printed)
+      → RunsToEnd worker (channels_in old) (channels_in written) trace answered → IsMadeOf settings.whole head trace histories answered printed
+      → ServesInput input settings (map state dies) views (map state back) (Ok printed)
   serves histories answered printed histories_are runs made =
       let leads : LeadsTo job worker (channels_in items) (map (λ list. list.items) answered.replies.items) answered.dropped
       answered.full =
       subst (λ (list : List A). LeadsTo job worker (channels_in list) (map (λ list. list.items) answered.replies.items)
       answered.dropped answered.full)
       same (runs job refl running) in
-      let served : IsServed input (map state dies) views (map state back) histories answered =
+      let served : IsServed input settings.history (map state dies) views (map state back) histories answered =
       record {
         worker = worker;
         channels = channels_in items;
@@ -64,6 +67,6 @@ module _ {A X : Type 0} (old written items : List A) (dies left back : List X) (
             all left_are
             back_are;
       } in (
-        served_is_of_input head trace (map state dies) views (map state back) histories answered printed is_head served made,
-        served_dies_count head trace (map state dies) views (map state back) histories answered enough served,
+        served_is_of_input head saved saved_as settings trace (map state dies) views (map state back) histories answered printed is_head served made,
+        served_dies_count head saved settings.history trace (map state dies) views (map state back) histories answered enough served,
       )

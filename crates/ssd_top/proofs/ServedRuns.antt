@@ -1,13 +1,14 @@
--- When calls of an input of a blank drive were served, all or those before a stop, what was made to be printed is of a run of
--- the input over the dies and policies that were handed in.
-use Rattle.std.proofs.Common.{ℕ, suc, ◌≡◌, ◌-◌, ◌*◌, ◌^◌, ◌<◌, ◌≤◌, List, [], ◌∷◌, ◌++◌, Option, Some, None, true, filter, length, map, refl, sym, ap, subst, ◌∙◌, arith}
+-- When calls of an input were served, all or those before a stop, what was made to be printed is of a run of the input over the dies and policies that were handed in.
+use Rattle.std.proofs.Common.{ℕ, zero, suc, Bool, ◌≡◌, ◌+◌, ◌-◌, ◌*◌, ◌^◌, ◌<◌, ◌≤◌, List, [], ◌∷◌, ◌++◌, Option, Some, None, false, filter, length, map, refl, sym, ap, subst, ◌∙◌, arith}
 use Rattle.std.proofs.lemmas.List.FromFn.{get_or-map-range_with_len, length-map-range_with_len}
 use Rattle.std.proofs.lemmas.List.{append-nil, length-map}
 use Rattle.std.proofs.lemmas.List.Sums.{length-filter}
 use Rattle.std.proofs.lemmas.List.Elements.{All-cons, All-nil, All-weaker}
+use Rattle.std.specs.List.{range_with_len}
 use Rattle.std.specs.Prelude.{All, IsTrue, slice_get, slice_index_or}
 use Rattle.chan_calls.specs.Workers.{WorkerState}
-use Rattle.complete_runs.proofs.CompleteRuns.{blank_runs_are_complete}
+use Rattle.complete_runs.proofs.CompleteRuns.{runs_are_complete}
+use Rattle.complete_runs.specs.BlankRuns.{BeginsBlank}
 use Rattle.ctl.specs.Asked.{FitsDrive}
 use Rattle.ctl.specs.Seen.{SeenChannel, pasts_of}
 use Rattle.drive_dies.specs.Mounting.{die_count}
@@ -16,9 +17,10 @@ use Rattle.history_text.specs.Places.{AsLong}
 use Rattle.onfi_cmd.specs.DieState.{DieState}
 use Rattle.run_laws.proofs.SerialHeadline.{serial_runs_hold}
 use Rattle.run_laws.proofs.StoppedRuns.{stopped_calls_hold}
-use Rattle.run_laws.specs.HandedCounts.{counts_by_channel}
+use Rattle.run_laws.specs.HandedCounts.{IsRunOver, counts_by_channel, handed_by_channel}
 use Rattle.run_laws.specs.Headline.{Headline}
-use Rattle.run_laws.specs.Runs.{Run, runs_with, text_of_run}
+use Rattle.run_laws.specs.Runs.{FaultCounts, Run, runs_with}
+use Rattle.run_laws.specs.Starts.{BeginsWith}
 use Rattle.run_laws.specs.SerialRuns.{ChannelsHold, HasCalls, IsHeadlineOfStop, IsHeadlineOfWhole}
 use Rattle.run_laws.specs.ServedRuns.{HasLedTo, IsServedFrom, contents_in, hints_in, run_of_input, taken_in}
 use Rattle.run_laws.specs.Serials.{HasSmallSerials}
@@ -30,11 +32,13 @@ use Rattle.ssd_histories.specs.HistoryRoom.{found_room}
 use Rattle.ssd_histories.specs.Standing.{IsPastOf}
 use Rattle.ssd_histories.specs.Start.{Start}
 use Rattle.ssd_formats.proofs.HeadLaws.{within_is}
+use Rattle.ssd_formats.specs.ImageContents.{ChannelImage, blank_channel}
 use Rattle.ssd_formats.specs.ImageHead.{Head, IsHead, head_of}
 use Rattle.ssd_formats.specs.Input.{Input}
 use Rattle.ssd_formats.specs.Numbers.{Text}
 use Rattle.ssd_formats.specs.RunText.{run_text}
 use Rattle.ssd_formats.specs.TraceText.{is_of_actor, kind_of_verb, kinds_of_actor, kinds_of_trace}
+use Rattle.ssd_formats.specs.Words.{Settings}
 use Rattle.ssd_geo.specs.declared.entry.Entry.{Entry}
 use Rattle.ssd_geo.specs.declared.head.ImageHead.{ImageHead}
 use Rattle.ssd_geo.specs.declared.policy_view.PolicyView.{PolicyView}
@@ -43,10 +47,10 @@ use Rattle.ssd_geo.specs.declared.trace.Trace.{Trace}
 use Rattle.ssd_geo.specs.declared.trace.TraceCall.{TraceCall}
 use Rattle.ssd_top.proofs.ServedChannels.{StandInRun, are_counted, dies_count, hold_pasts, others_stay}
 use Rattle.ssd_top.proofs.ServedVerbs.{small_verb}
-use Rattle.ssd_top.specs.Forms.{blank_input}
+use Rattle.ssd_top.specs.Forms.{input_of}
 use Rattle.ssd_top.specs.Handed.{IsRunOf}
 use Rattle.ssd_top.specs.HandedBack.{AllCountRuns}
-use Rattle.ssd_top.specs.Printed.{text_of}
+use Rattle.ssd_top.specs.Printed.{shown_text, text_of}
 use Rattle.ssd_top.specs.Running.{HasStopped, HaveFoundRoom, IsRunning, Job}
 use Rattle.ssd_top.specs.Serving.{EndsAt, GiveBack, IsMadeOf, IsOfInput, IsServed, LeadsTo, job_of}
 use Rattle.ssd_top.specs.declared.printed.Printed.{Printed}
@@ -108,9 +112,9 @@ led_fits input starts done rest replies pasts hints dropped are_calls led = reco
 -- ---- the channels
 
 -- what is printed of channels with these replies
-abbrev text_with : Input → List SeenChannel → List (List Reply) → ℕ → Text
-text_with input channels replies dropped =
-    run_text true (length input.head.read_levels) (map history_of (pasts_of channels)) (kinds_of_trace input.calls) replies
+abbrev text_with : Bool → Input → List SeenChannel → List (List Reply) → ℕ → Text
+text_with whole input channels replies dropped =
+    run_text whole (length input.head.read_levels) (map history_of (pasts_of channels)) (kinds_of_trace input.calls) replies
     dropped
 
 -- what holds of each channel of a run holds of all
@@ -127,17 +131,18 @@ all_channels P (start ∷ starts) (channel ∷ channels) each =
 many_pasts : (channels : List SeenChannel) → length (pasts_of channels) ≡ length channels
 many_pasts channels = length-map channels (λ (channel : SeenChannel). channel.kept.past)
 
-module _ (head : Head) (asked : Trace) (dies : List DieState) (views : List (Option PolicyView)) where
+module _ (head : Head) (saved : ℕ → ChannelImage) (asked : Trace) (limit : ℕ) (dies : List DieState)
+    (views : List (Option PolicyView)) where
   abbrev input : Input
-  input = blank_input head asked
+  input = input_of head saved asked
 
   abbrev job : Job
-  job = job_of input dies views
+  job = job_of input limit dies views
 
   -- the channels of a run stand for its starts: after some calls, and where the next call has come so far
   stand_running : (worker : WorkerState) (channels : List SeenChannel) (done : List TraceCall) (replies : List (List Reply))
       (hints : List ℕ) (dropped : ℕ) (running : IsRunning job worker channels done replies hints dropped)
-      → StandInRun head asked dies views worker channels running.starts
+      → StandInRun head saved asked limit dies views worker channels running.starts
   stand_running worker channels done replies hints dropped running = record {
     starts_are = running.starts_are;
     sizes_are = running.sizes_are;
@@ -146,7 +151,7 @@ module _ (head : Head) (asked : Trace) (dies : List DieState) (views : List (Opt
 
   stand_stopped : (worker : WorkerState) (channels : List SeenChannel) (replies : List (List Reply)) (dropped at entries : ℕ)
       (stopped : HasStopped job worker channels replies dropped at entries)
-      → StandInRun head asked dies views worker channels stopped.running.starts
+      → StandInRun head saved asked limit dies views worker channels stopped.running.starts
   stand_stopped worker channels replies dropped at entries stopped = record {
     starts_are = stopped.running.starts_are;
     sizes_are = stopped.running.sizes_are;
@@ -156,7 +161,7 @@ module _ (head : Head) (asked : Trace) (dies : List DieState) (views : List (Opt
   -- ---- the run
 
   module _ (worker : WorkerState) (channels : List SeenChannel) (starts : List Start)
-      (stand : StandInRun head asked dies views worker channels starts) (back : List DieState)
+      (stand : StandInRun head saved asked limit dies views worker channels starts) (back : List DieState)
       (give : GiveBack head channels dies back) (replies : List (List Reply)) (dropped : ℕ) where
     -- the run of calls that were served
     abbrev run_of : Run
@@ -164,15 +169,15 @@ module _ (head : Head) (asked : Trace) (dies : List DieState) (views : List (Opt
         run_of_input input starts replies (pasts_of channels)
         (counts_by_channel head.sizes.channels head.sizes.dies (counts_of back)) dropped
 
-    is_run_of : IsRunOf input dies views back run_of
+    is_run_of : IsRunOf input limit dies views back run_of
     is_run_of = record {
       is_over = record {
         calls_are = refl;
         begins = record { shape = worker.shape; sizes_are = stand.sizes_are; starts_are = stand.starts_are };
         faults_are = refl;
       };
-      hold = hold_pasts head asked dies views worker channels starts stand back give;
-      others_stay = others_stay head asked dies views worker channels starts stand back give;
+      hold = hold_pasts head saved asked limit dies views worker channels starts stand back give;
+      others_stay = others_stay head saved asked limit dies views worker channels starts stand back give;
     }
 
     -- its calls are numbered and have their data, and their numbers fit their fields
@@ -204,7 +209,7 @@ module _ (head : Head) (asked : Trace) (dies : List DieState) (views : List (Opt
           (λ n start channel has_start has_channel.
           subst (λ (limit : ℕ). IsTrue (found_room limit channel.kept.past))
           (stand.standing.stand n start channel has_start has_channel).limit_is (have_room n channel has_channel).has_room);
-      are_counted = are_counted head asked dies views worker channels starts stand back give;
+      are_counted = are_counted head saved asked limit dies views worker channels starts stand back give;
       few_channels = let many = stand.standing.as_many in omega (arith, many, few_channels);
       are_short =
           all_channels (λ run. length run.past ≤ run.start.limit) starts channels
@@ -219,12 +224,12 @@ module _ (head : Head) (asked : Trace) (dies : List DieState) (views : List (Opt
       (stop : Option (ℕ × ℕ)) : Type 0 where
     fits : FitsCalls input replies dropped
     run : Run
-    is_run : IsRunOf input dies views back run
+    is_run : IsRunOf input limit dies views back run
     some_channel : 0 < length run.starts
     calls_are : HasCalls head run
     headline : Headline head run
     ends : EndsAt head run stop
-    is_text : text_with input channels replies dropped ≡ text_of_run head run
+    is_text : (whole : Bool) → text_with whole input channels replies dropped ≡ shown_text whole head run
 
   is_of_run : (worker : WorkerState) (channels : List SeenChannel) (back : List DieState) → GiveBack head channels dies back
       → (replies : List (List Reply)) (dropped : ℕ) (stop : Option (ℕ × ℕ))
@@ -254,7 +259,7 @@ module _ (head : Head) (asked : Trace) (dies : List DieState) (views : List (Opt
             running.few_actors running.few_calls (length channels) running.fits;
         headline = holds.headline;
         ends = holds.is_whole;
-        is_text = refl;
+        is_text = λ whole. refl;
       }
   is_of_run worker channels back give replies dropped (Some stop) stopped =
       let running = stopped.running in
@@ -283,7 +288,7 @@ module _ (head : Head) (asked : Trace) (dies : List DieState) (views : List (Opt
             running.few_actors running.few_calls (length stopped.old) running.fits;
         headline = holds.headline;
         ends = holds.is_stopped;
-        is_text = refl;
+        is_text = λ whole. refl;
       }
 
   -- ---- the dies
@@ -295,10 +300,10 @@ module _ (head : Head) (asked : Trace) (dies : List DieState) (views : List (Opt
       → LeadsTo job worker channels replies dropped stop → AllCountRuns dies back
   dies_count_served worker channels back give enough replies dropped None leads =
       let running : IsRunning job worker channels asked.calls replies leads.0 dropped = leads.1 in
-      dies_count head asked dies views worker channels running.starts
+      dies_count head saved asked limit dies views worker channels running.starts
       (stand_running worker channels asked.calls replies leads.0 dropped running) back give enough
   dies_count_served worker channels back give enough replies dropped (Some stop) stopped =
-      dies_count head asked dies views worker channels stopped.running.starts
+      dies_count head saved asked limit dies views worker channels stopped.running.starts
       (stand_stopped worker channels replies dropped stop.0 stop.1 stopped) back give enough
 
 -- ---- what is printed
@@ -309,30 +314,61 @@ through : (channels : List SeenChannel)
 through [] = refl
 through (channel ∷ channels) = ap (λ (rest : List (List Entry)). history_of channel.kept.past ∷ rest) (through channels)
 
+-- what an image tells of the channels is blank where the image has no contents
+abbrev pub IsSavedAs : Head → (ℕ → ChannelImage) → Type 0
+IsSavedAs head saved =
+    head.full ≡ false → (number : ℕ) → number < head.sizes.channels → saved number ≡ blank_channel head number
+
+same_saved : (saved other : ℕ → ChannelImage) (count from : ℕ)
+    → ((number : ℕ) → number < from + count → saved number ≡ other number)
+    → map saved (range_with_len from count) ≡ map other (range_with_len from count)
+same_saved saved other zero from each = refl
+same_saved saved other (suc count) from each =
+    let later : map saved (range_with_len (from + 1) count) ≡ map other (range_with_len (from + 1) count) =
+    same_saved saved other count (from + 1) (λ number low. each number (omega (arith, low))) in
+    rw (each from (omega arith), later) refl
+
+-- so a run on it began with a blank drive
+begins_blank : (head : Head) (saved : ℕ → ChannelImage) → IsSavedAs head saved → (asked : Trace) (limit : ℕ)
+    (before after : FaultCounts) (views : List (Option PolicyView)) (run : Run) → IsHead head
+    → IsRunOver (input_of head saved asked) limit before after views run → head.full ≡ false → BeginsBlank head run
+begins_blank head saved saved_as asked limit before after views run is_head over blank = record {
+  is_head = is_head;
+  limit = limit;
+  handed = handed_by_channel head.sizes.channels head.sizes.dies before views;
+  begins =
+      subst
+      (λ (channels : List ChannelImage).
+      BeginsWith head channels limit (handed_by_channel head.sizes.channels head.sizes.dies before views) run)
+      (same_saved saved (blank_channel head) head.sizes.channels 0 (λ number low. saved_as blank number (omega (arith, low))))
+      over.begins;
+}
+
 -- what was served of an input and is to be printed is of a run of it
-pub served_is_of_input : (head : ImageHead) (asked : Trace) (dies : List DieState) (views : List (Option PolicyView))
-    (back : List DieState) (histories : List (List Entry)) (answered : Answered) (printed : Printed) → IsHead (head_of head)
-    → IsServed (blank_input (head_of head) asked) dies views back histories answered
-    → IsMadeOf head asked histories answered printed
-    → IsOfInput (blank_input (head_of head) asked) dies views back printed
-served_is_of_input head asked dies views back histories answered printed is_head served made =
+pub served_is_of_input : (head : ImageHead) (saved : ℕ → ChannelImage) → IsSavedAs (head_of head) saved → (settings : Settings)
+    (asked : Trace) (dies : List DieState) (views : List (Option PolicyView)) (back : List DieState)
+    (histories : List (List Entry)) (answered : Answered) (printed : Printed) → IsHead (head_of head)
+    → IsServed (input_of (head_of head) saved asked) settings.history dies views back histories answered
+    → IsMadeOf settings.whole head asked histories answered printed
+    → IsOfInput (input_of (head_of head) saved asked) settings dies views back printed
+served_is_of_input head saved saved_as settings asked dies views back histories answered printed is_head served made =
     let replies : List (List Reply) = map (λ list. list.items) answered.replies.items in
     let of =
-    is_of_run (head_of head) asked dies views served.worker served.channels back served.give_back replies answered.dropped
-    answered.full served.leads in
+    is_of_run (head_of head) saved asked settings.history dies views served.worker served.channels back served.give_back replies
+    answered.dropped answered.full served.leads in
     let count : length (kinds_of_trace asked) ≡ asked.actors =
     length-map-range_with_len (kinds_of_actor asked.calls) 0 asked.actors in
     let levels : printed.head.read_levels ≡ head.read_levels = ap (λ (other : ImageHead). other.read_levels) made.head_is in
     let few_levels : length head.read_levels ≤ 16 = within_is 1 16 (length head.read_levels) is_head.level_count in
     let printed_histories : printed.histories.items ≡ map history_of (pasts_of served.channels) =
     made.histories_are ∙ served.histories_are ∙ through served.channels in
-    let text : text_with (blank_input (head_of head) asked) served.channels replies answered.dropped ≡ text_of printed =
-    rw (levels, printed_histories, made.kinds_are, made.replies_are, made.dropped_is) refl in
+    let text : text_with settings.whole (input_of (head_of head) saved asked) served.channels replies answered.dropped ≡ text_of printed =
+    rw (made.whole_is, levels, printed_histories, made.kinds_are, made.replies_are, made.dropped_is) refl in
     record {
       printable = record {
         few_levels = rw levels few_levels;
         lists = rw (made.kinds_are, made.replies_are) (count ∙ sym of.fits.as_many_actors);
-        long = rw (made.kinds_are, made.replies_are) (as_long (blank_input (head_of head) asked) replies answered.dropped of.fits);
+        long = rw (made.kinds_are, made.replies_are) (as_long (input_of (head_of head) saved asked) replies answered.dropped of.fits);
         dropped = rw (made.dropped_is, made.replies_are) of.fits.few_dropped;
         taken = rw (made.dropped_is, made.replies_are) of.fits.few_taken;
       };
@@ -340,16 +376,18 @@ served_is_of_input head asked dies views back histories answered printed is_head
       is_run = of.is_run;
       headline = of.headline;
       complete =
-          blank_runs_are_complete (head_of head) of.run of.some_channel
-          (record { is_head = is_head; limit = _; handed = _; begins = of.is_run.is_over.begins }) of.calls_are of.headline;
+          runs_are_complete (head_of head) of.run of.some_channel
+          (begins_blank (head_of head) saved saved_as asked settings.history (counts_of dies) (counts_of back) views of.run is_head
+          of.is_run.is_over)
+          of.calls_are of.headline;
       ends = subst (λ (other : Option (ℕ × ℕ)). EndsAt (head_of head) of.run other) (sym made.full_is) of.ends;
-      is_text = sym text ∙ of.is_text;
+      is_text = sym text ∙ of.is_text settings.whole;
     }
 
 -- each die counts as one that took part in a run
-pub served_dies_count : (head : ImageHead) (asked : Trace) (dies : List DieState) (views : List (Option PolicyView))
+pub served_dies_count : (head : ImageHead) (saved : ℕ → ChannelImage) (limit : ℕ) (asked : Trace) (dies : List DieState) (views : List (Option PolicyView))
     (back : List DieState) (histories : List (List Entry)) (answered : Answered) → die_count head ≤ length dies
-    → IsServed (blank_input (head_of head) asked) dies views back histories answered → AllCountRuns dies back
-served_dies_count head asked dies views back histories answered enough served =
-    dies_count_served (head_of head) asked dies views served.worker served.channels back served.give_back enough
+    → IsServed (input_of (head_of head) saved asked) limit dies views back histories answered → AllCountRuns dies back
+served_dies_count head saved limit asked dies views back histories answered enough served =
+    dies_count_served (head_of head) saved asked limit dies views served.worker served.channels back served.give_back enough
     (map (λ list. list.items) answered.replies.items) answered.dropped answered.full served.leads

@@ -1,6 +1,6 @@
 -- What does the top call hand in for a run, and what comes back? Dies and policies; the counts and the pages of the dies that
--- are handed back are those of the run, and dies behind those of the drive are as they were; and the limit of the histories.
-use Rattle.std.specs.Prelude.{ℕ, ◌≡◌, ◌*◌, ◌^◌, List, drop, Option}
+-- are handed back are those of the run, and dies behind those of the drive are as they were.
+use Rattle.std.specs.Prelude.{ℕ, ◌≡◌, ◌*◌, List, drop, Option}
 use Rattle.final_dies.specs.FinalDies.{HoldPasts, counts_of}
 use Rattle.onfi_cmd.specs.DieState.{DieState}
 use Rattle.run_laws.specs.HandedCounts.{IsRunOver}
@@ -8,14 +8,11 @@ use Rattle.run_laws.specs.Runs.{Run, channels_of, data_in}
 use Rattle.ssd_formats.specs.Input.{Input}
 use Rattle.ssd_geo.specs.declared.policy_view.PolicyView.{PolicyView}
 
--- the limit of a history's entries
-abbrev pub history_limit : ℕ
-history_limit = 2 ^ 22
-
--- a run is one of an input over dies that were handed in, policies that tell these views, and the dies that are handed back
-pub record IsRunOf (asked : Input) (dies : List DieState) (views : List (Option PolicyView)) (back : List DieState) (run : Run)
-    : Type 0 where
-  pub is_over : IsRunOver asked history_limit (counts_of dies) (counts_of back) views run
+-- a run is one of an input, with this limit of the histories, over dies that were handed in, policies that tell these views,
+-- and the dies that are handed back
+pub record IsRunOf (asked : Input) (limit : ℕ) (dies : List DieState) (views : List (Option PolicyView)) (back : List DieState)
+    (run : Run) : Type 0 where
+  pub is_over : IsRunOver asked limit (counts_of dies) (counts_of back) views run
   pub hold : HoldPasts (data_in asked.head run) asked.head.sizes.dies back (channels_of run)
   pub others_stay :
       drop (asked.head.sizes.channels * asked.head.sizes.dies) back

@@ -1,6 +1,7 @@
 -- Which dies does the top call take, and what has become of them at the end? It takes the most dies that a drive has, each of
 -- which tells its blocks, and hands them back in their order. A work count rises only by calls of the trace, and a load count
--- only where the die is named by the status. Dies are mounted between the head of an image and its trace.
+-- only where the die is named by the status. Dies are mounted between the head of an image and its contents, which are loaded
+-- into them.
 use Rattle.std.specs.Prelude.{ℕ, ◌≡◌, List, length, ⊤}
 use Rattle.drive_dies.specs.Mounting.{AllTell, CountsFailure, CountsNone, EachBecomes}
 use Rattle.onfi_cmd.specs.DieState.{DieState}
@@ -35,7 +36,7 @@ AllCountNone olds news = EachBecomes (λ number old new. CountsNone old new) old
 -- what became of the dies, by how the call ended. Where memory was refused some may be lost
 abbrev pub AreHandedBack : Status → List DieState → List DieState → Type 0
 AreHandedBack Words olds news = news ≡ olds
-AreHandedBack (Image at fault) olds news = news ≡ olds
+AreHandedBack (Image at fault) olds news = AllCountNone olds news
 AreHandedBack NotBuilt olds news = news ≡ olds
 AreHandedBack (Trace line fault) olds news = AllCountNone olds news
 AreHandedBack ReadFault olds news = AllCountNone olds news

@@ -1,6 +1,8 @@
+pub mod Commands
 pub mod Forms
 pub mod Handed
 pub mod HandedBack
+pub mod Loading
 pub mod Printed
 pub mod Running
 pub mod Serving

@@ -21,7 +21,6 @@ use Rattle.ssd_geo.specs.declared.policy_view.PolicyView.{PolicyView}
 use Rattle.ssd_geo.specs.declared.reply.Reply.{Reply}
 use Rattle.ssd_geo.specs.declared.trace.Trace.{Trace}
 use Rattle.ssd_geo.specs.declared.trace.TraceCall.{TraceCall}
-use Rattle.ssd_top.specs.Handed.{history_limit}
 
 -- each entry of a channel's past found room, and there are no more than its history's limit
 pub record HasFoundRoom (channel : SeenChannel) : Type 0 where
@@ -32,9 +31,10 @@ pub record HasFoundRoom (channel : SeenChannel) : Type 0 where
 abbrev pub HaveFoundRoom : List SeenChannel → Type 0
 HaveFoundRoom channels = (n : ℕ) (channel : SeenChannel) → slice_get channels n ≡ Some channel → HasFoundRoom channel
 
--- a job: an input, over dies with these counts and policies that tell these views
+-- a job: an input, with this limit of the histories, over dies with these counts and policies that tell these views
 pub record Job : Type 0 where
   pub input : Input
+  pub limit : ℕ
   pub before : FaultCounts
   pub views : List (Option PolicyView)
 
@@ -44,7 +44,7 @@ pub record IsRunning (job : Job) (worker : WorkerState) (channels : List SeenCha
     (done : List TraceCall) (replies : List (List Reply)) (hints : List ℕ) (dropped : ℕ) : Type 0 where
   pub starts : List Start
   pub starts_are :
-      starts ≡ starts_of worker.shape job.input.head history_limit job.input.channels
+      starts ≡ starts_of worker.shape job.input.head job.limit job.input.channels
       (handed_by_channel job.input.head.sizes.channels job.input.head.sizes.dies job.before job.views)
   pub sizes_are : sizes_of worker.shape ≡ job.input.head.sizes
   pub is_served_from : IsServedFrom job.input starts

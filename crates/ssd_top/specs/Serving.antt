@@ -1,7 +1,7 @@
 -- What has come of the top call's source and sink, where it served an input and where it didn't? A
 -- source that tells its bytes says which input was served, or what was wrong with it; the facts are
 -- those of the bytes that it had.
-use Rattle.std.specs.Prelude.{ℕ, ◌≡◌, ◌*◌, ◌++◌, true, All, List, [], drop, flat_map, length, map, replicate, Result, Ok, Err, Option, Some, None, IfSome, ⊤}
+use Rattle.std.specs.Prelude.{ℕ, ◌≡◌, ◌*◌, ◌++◌, Bool, All, List, [], drop, flat_map, length, map, replicate, Result, Ok, Err, Option, Some, None, IfSome, ⊤}
 use Rattle.ssd_formats.specs.ImageHead.{Head}
 use Rattle.ssd_formats.specs.Input.{Input, read_input}
 use Rattle.ssd_geo.specs.Faults.{Rose}
@@ -21,30 +21,28 @@ use Rattle.drive_dies.specs.declared.mounting.MountStop.TheVariants as MountVari
 use Rattle.final_dies.specs.FinalDies.{counts_of}
 use Rattle.onfi_cmd.specs.DieState.{DieState}
 use Rattle.run_laws.specs.Headline.{Headline, IsStoppedRun, IsWholeRun}
-use Rattle.run_laws.specs.Runs.{Run, text_of_run}
+use Rattle.run_laws.specs.Runs.{Run}
 use Rattle.ssd_histories.specs.History.{history_of}
 use Rattle.ssd_formats.specs.TraceText.{kinds_of_trace}
+use Rattle.ssd_formats.specs.Words.{Settings}
 use Rattle.ssd_geo.specs.declared.entry.Entry.{Entry}
 use Rattle.ssd_geo.specs.declared.head.ImageHead.{ImageHead}
 use Rattle.ssd_geo.specs.declared.policy_view.PolicyView.{PolicyView}
 use Rattle.ssd_geo.specs.declared.reply.Reply.{Reply}
 use Rattle.ssd_geo.specs.declared.trace.Trace.{Trace as TraceOf}
-use Rattle.ssd_top.specs.Forms.{IsUnserved, is_served}
 use Rattle.ssd_top.specs.Handed.{IsRunOf}
 use Rattle.ssd_top.specs.HandedBack.{AllCountRuns, AreHandedBack}
-use Rattle.ssd_top.specs.Printed.{IsPrintable, text_of}
+use Rattle.ssd_top.specs.Printed.{IsPrintable, shown_text, text_of}
 use Rattle.ssd_top.specs.Running.{HasStopped, IsRunning, Job}
 use Rattle.ssd_top.specs.declared.printed.Printed.{Printed}
 use Rattle.ssd_top.specs.declared.serving.Answered.{Answered}
 use Rattle.ssd_top.specs.declared.status.Status.{Status}
 use Rattle.ssd_top.specs.declared.status.Status.TheVariants.{Done, Words, Image, Trace, ReadFault, WriteFault, HistoryLimit, OutOfMemory, DieFailed as DieFailedStatus, NotBuilt}
 
--- an input was read to its end, where the source told its bytes from those, and is one that is
--- served
+-- an input was read to its end, where the source told its bytes from those
 pub record WasRead (before after : Option (List ℕ)) (asked : Input) : Type 0 where
   pub is_input : IfSome before (λ input_bytes. read_input input_bytes ≡ Ok asked)
   pub at_end : IfSome before (λ input_bytes. after ≡ Some [])
-  pub is_served : is_served asked ≡ true
 
 -- a run came to its end, or stopped at the limit of this channel's history, with so many entries
 -- there
@@ -56,11 +54,11 @@ EndsAt head run (Some stop) = IsStoppedRun head run stop.0 stop.1
 abbrev pub Ends : Head → Run → Type 0
 Ends head run = (stop : Option (ℕ × ℕ)) × EndsAt head run stop
 
--- a status that names a fault names the first of these bytes, and one of what isn't built has its cause in them
+-- a status that names a fault names the first of these bytes, and none of what isn't built has its cause in them
 abbrev pub IsCausedBy : Status → List ℕ → Type 0
 IsCausedBy (Image at fault) input_bytes = read_input input_bytes ≡ Err (image at (image_fault fault))
 IsCausedBy (Trace line fault) input_bytes = read_input input_bytes ≡ Err (trace line (trace_fault fault))
-IsCausedBy NotBuilt input_bytes = IsUnserved input_bytes
+IsCausedBy NotBuilt input_bytes = ⊥
 IsCausedBy status input_bytes = ⊤
 
 abbrev pub IsCausedByTold : Option (List ℕ) → Status → Type 0
@@ -83,9 +81,9 @@ RunsToEnd worker old new asked answered =
     IsRunning job worker old [] (replicate asked.actors []) [] 0 →
     LeadsTo job worker new (map (λ list. list.items) answered.replies.items) answered.dropped answered.full
 
--- the job of an input over dies and policies that tell these views
-abbrev pub job_of : Input → List DieState → List (Option PolicyView) → Job
-job_of input dies views = record { input = input; before = counts_of dies; views = views }
+-- the job of an input, with this limit of the histories, over dies and policies that tell these views
+abbrev pub job_of : Input → ℕ → List DieState → List (Option PolicyView) → Job
+job_of input limit dies views = record { input = input; limit = limit; before = counts_of dies; views = views }
 
 -- channels gave their dies back, each as many as it has, in front of the others of the list
 pub record GiveBack (head : Head) (channels : List SeenChannel) (dies back : List DieState) : Type 0 where
@@ -93,21 +91,22 @@ pub record GiveBack (head : Head) (channels : List SeenChannel) (dies back : Lis
   pub back_are :
       back ≡ flat_map (λ channel. channel.kept.dies) channels ++ drop (head.sizes.channels * head.sizes.dies) dies
 
--- the calls of an input were served over dies and policies: they led to these histories, replies and number of dropped hints,
--- and the dies came back so
-pub record IsServed (input : Input) (dies : List DieState) (views : List (Option PolicyView)) (back : List DieState)
+-- the calls of an input were served, with this limit of the histories, over dies and policies: they led to these histories,
+-- replies and number of dropped hints, and the dies came back so
+pub record IsServed (input : Input) (limit : ℕ) (dies : List DieState) (views : List (Option PolicyView)) (back : List DieState)
     (histories : List (List Entry)) (answered : Answered) : Type 0 where
   pub worker : WorkerState
   pub channels : List SeenChannel
   pub leads :
-      LeadsTo (job_of input dies views) worker channels
+      LeadsTo (job_of input limit dies views) worker channels
       (map (λ list. list.items) answered.replies.items) answered.dropped answered.full
   pub histories_are : histories ≡ map (λ channel. history_of channel.kept.past) channels
   pub give_back : GiveBack input.head channels dies back
 
--- what is to be printed is made of a head, a trace, histories and answers
-pub record IsMadeOf (head : ImageHead) (asked : TraceOf) (histories : List (List Entry)) (answered : Answered)
+-- what is to be printed, all or the summary alone, is made of a head, a trace, histories and answers
+pub record IsMadeOf (whole : Bool) (head : ImageHead) (asked : TraceOf) (histories : List (List Entry)) (answered : Answered)
     (printed : Printed) : Type 0 where
+  pub whole_is : printed.whole ≡ whole
   pub head_is : printed.head ≡ head
   pub histories_are : printed.histories.items ≡ histories
   pub kinds_are : printed.kinds.items ≡ kinds_of_trace asked
@@ -115,29 +114,31 @@ pub record IsMadeOf (head : ImageHead) (asked : TraceOf) (histories : List (List
   pub dropped_is : printed.dropped ≡ answered.dropped
   pub full_is : printed.full ≡ answered.full
 
--- what is to be printed of an input can be, and is the text of a run of it over dies and policies, with the dies that came back
-pub record IsOfInput (asked : Input) (dies : List DieState) (views : List (Option PolicyView)) (back : List DieState)
+-- what is to be printed of an input can be, and is what settings show of a run of it over dies and policies, with the dies that
+-- came back
+pub record IsOfInput (asked : Input) (settings : Settings) (dies : List DieState) (views : List (Option PolicyView)) (back : List DieState)
     (printed : Printed) : Type 0 where
   pub printable : IsPrintable printed
   pub run : Run
-  pub is_run : IsRunOf asked dies views back run
+  pub is_run : IsRunOf asked settings.history dies views back run
   pub headline : Headline asked.head run
   pub complete : IsComplete asked.head run
   pub ends : EndsAt asked.head run printed.full
-  pub is_text : text_of printed ≡ text_of_run asked.head run
+  pub is_text : text_of printed ≡ shown_text settings.whole asked.head run
 
--- an input that is served was read to its end, and this is to be printed of it
-pub record HasServed (before after : Option (List ℕ)) (dies : List DieState) (views : List (Option PolicyView))
+-- an input was read to its end, and this is to be printed of it
+pub record HasServed (before after : Option (List ℕ)) (settings : Settings) (dies : List DieState) (views : List (Option PolicyView))
     (back : List DieState) (printed : Printed) : Type 0 where
   pub asked : Input
   pub was_read : WasRead before after asked
-  pub of_input : IsOfInput asked dies views back printed
+  pub of_input : IsOfInput asked settings dies views back printed
 
 -- how the calls of an input ended, with the dies that came back
-abbrev pub ServesInput : Input → List DieState → List (Option PolicyView) → List DieState → Result Printed Status → Type 0
-ServesInput input dies views back (Ok printed) = IsOfInput input dies views back printed × AllCountRuns dies back
-ServesInput input dies views back (Err OutOfMemory) = ⊤
-ServesInput input dies views back (Err status) = ⊥
+abbrev pub ServesInput :
+    Input → Settings → List DieState → List (Option PolicyView) → List DieState → Result Printed Status → Type 0
+ServesInput input settings dies views back (Ok printed) = IsOfInput input settings dies views back printed × AllCountRuns dies back
+ServesInput input settings dies views back (Err OutOfMemory) = ⊤
+ServesInput input settings dies views back (Err status) = ⊥
 
 -- what became of the dies, by how an input was served
 abbrev pub AreGivenBack : Result Printed Status → List DieState → List DieState → Type 0
@@ -174,7 +175,7 @@ IsNoDie Memory = ⊤
 abbrev pub IsStop : ℕ → ℕ → Status → Type 0
 IsStop before now (Image at fault) = now ≡ before
 IsStop before now (Trace line fault) = now ≡ before
-IsStop before now NotBuilt = now ≡ before
+IsStop before now NotBuilt = ⊥
 IsStop before now OutOfMemory = now ≡ before
 IsStop before now (DieFailedStatus die) = now ≡ before
 IsStop before now ReadFault = Rose before now

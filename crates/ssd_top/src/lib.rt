@@ -2,14 +2,17 @@
 //! source holds and answers how that ended. It knows no operating system.
 #![tactic(auto)]
 
+mod format;
+mod generate;
 mod lists;
+mod loading;
 mod printed;
 mod serve;
 mod serving;
 mod status;
 mod top;
-mod words;
 mod worker;
 
+pub use command_words::{is_race, policy_of};
 pub use status::{Status, status_text};
 pub use top::{Ended, run};

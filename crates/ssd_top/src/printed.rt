@@ -9,7 +9,7 @@ use history_text::print_run;
 use ssd_geo::{CallKind, Entry, ImageHead, Items, Reply};
 use ssd_io::{Failed, Sink};
 
-// All that a run prints, made before anything is written, and the line through which it goes. A run
+// What a run prints, all or the summary alone, made before anything is written, and the line through which it goes. A run
 // that stopped at the limit of a channel's history names the channel and the history's length.
 #[derive(Drop)]
 pub struct Printed {
@@ -19,6 +19,7 @@ pub struct Printed {
     pub replies: Vec<Items<Reply>>,
     pub dropped: u32,
     pub full: Option<(u8, u32)>,
+    pub whole: bool,
     pub line: Vec<u8>,
 }
 
@@ -41,7 +42,7 @@ impl Printed {
             &self.kinds,
             &self.replies,
             u64::from(self.dropped),
-            true,
+            self.whole,
             &mut self.line,
         )
     }

@@ -1,52 +1,34 @@
 // An input, from its bytes to what is printed of it.
-ghost use Rattle.std.specs.Prelude.{◌≡◌, ◌≤◌, IfErr, IfOk, OnOk, map, vec_len};
-ghost use Rattle.drive_dies.specs.Mounting.{AreReady};
+ghost use Rattle.std.specs.Prelude.{◌≡◌, ◌≤◌, List, IfErr, IfOk, OnOk, map, vec_len};
+ghost use Rattle.command_words.specs.Commands.{AreWithin, told_settings};
+ghost use Rattle.drive_contents.specs.LoadedDrive.{AreOfDrive};
 ghost use Rattle.ssd_geo.specs.Faults.{NeverFell};
+ghost use Rattle.saved_drive.specs.Contents.{AreMounted, HaveImage};
+ghost use Rattle.ssd_formats.specs.ImageContents.{ChannelImage};
 ghost use Rattle.ssd_formats.specs.ImageHead.{IsHead, head_of};
 ghost use Rattle.ssd_geo.specs.Shape.{sizes_of};
-ghost use Rattle.ssd_top.specs.Forms.{blank_input};
 ghost use Rattle.ssd_top.specs.HandedBack.{AreHandedIn, most_channels};
 ghost use Rattle.ssd_top.specs.Serving.{AreGivenBack, HasServed, IsCausedByTold, IsMadeOf, IsNoDie, IsStop, ServesInput};
-ghost use Rattle.ssd_top.specs.Serving.{status_of_image, status_of_mount, status_of_trace};
+ghost use Rattle.ssd_top.specs.Serving.{status_of_trace};
 ghost use Rattle.trace_text.specs.NumberedCalls.{IsNumbered};
 
 use crate::Status;
 use crate::lists::{kinds_of, replies_of};
+use crate::loading::{image_status, load_drive};
 use crate::printed::Printed;
 use crate::serving::{Answered, serve_trace};
 use crate::worker::worker_of;
-use blank_drive::{Ended, begin_channels, end_channels, mount_drive};
-use drive_dies::MountStop;
-use image_file::{ImageFault, ReadStop, read_head};
+use blank_drive::{Ended, end_channels};
+use command_words::Settings;
+use image_file::{ReadStop, read_head};
+use ldpc_decode::Lanes;
 use onfi_cmd::Die;
-use ssd_geo::{Entry, ImageHead, Items, Memory, Trace};
+use saved_drive::begin_channels;
+use ssd_geo::{ChannelBase, Entry, ImageHead, Items, Memory, Trace};
 use ssd_io::Source;
 use std::alloc::Global;
 use trace_text::{TraceFault, read_trace};
 use victim::Policy;
-
-// The status of an image that wasn't read.
-fn image_status(stop: ReadStop<ImageFault>) -> Status
-    requires { IsNoDie stop }
-    ensures { result ≡ status_of_image stop }
-{
-    match stop {
-        ReadStop::Fault { at, fault } => Status::Image { at, fault },
-        ReadStop::ReadFault => Status::ReadFault,
-        ReadStop::DieFailed { .. } => unreachable!(),
-        ReadStop::Memory => Status::OutOfMemory,
-    }
-}
-
-// The status of dies that weren't mounted.
-fn mount_status(stop: MountStop) -> Status
-    ensures { result ≡ status_of_mount stop }
-{
-    match stop {
-        MountStop::Failed { die } => Status::DieFailed { die },
-        MountStop::Memory => Status::OutOfMemory,
-    }
-}
 
 // The status of a trace that wasn't read.
 fn trace_status(stop: ReadStop<TraceFault>) -> Status
@@ -71,12 +53,13 @@ pub struct Answer<D: Die> {
 // What is printed of histories and answers.
 fn printed_of(
     alloc: Global,
+    whole: bool,
     head: ImageHead,
     trace: &Trace,
     histories: Vec<Items<Entry>>,
     answered: Answered,
 ) -> Result<Printed, Memory>
-    ensures { IfOk result (IsMadeOf head trace.now histories.items answered) }
+    ensures { IfOk result (IsMadeOf whole head trace.now histories.items answered) }
 {
     let Answered {
         replies,
@@ -96,33 +79,56 @@ fn printed_of(
         replies,
         dropped,
         full,
+        whole,
         line,
     })
 }
 
-// The limit of each history's entries.
-const LIMIT: u32 = 1 << 22;
+// So many lanes.
+fn lanes_of(number: u8) -> Lanes {
+    match number {
+        1 => Lanes::One,
+        4 => Lanes::Four,
+        8 => Lanes::Eight,
+        32 => Lanes::ThirtyTwo,
+        _ => Lanes::Sixteen,
+    }
+}
 
-// Serves the calls of a trace on the blank drive of an image's head, whose dies are mounted and the first of the list.
+// Serves the calls of a trace on the drive of an image, whose dies are mounted and the first of the list, and have its contents as
+// the bases of its channels have them.
 fn serve<D: Die, P: Policy>(
     alloc: Global,
+    settings: Settings,
     head: ImageHead,
+    bases: Vec<ChannelBase>,
     trace: &Trace,
     dies: Vec<D>,
     policies: Vec<P>,
 ) -> Answer<D>
+    requires settings { AreWithin settings }
     requires head { IsHead (head_of head) }
     requires calls { IsNumbered (sizes_of head.shape) trace.now }
-    requires dies { AreReady head (map D.state dies.items) }
+    requires dies { AreMounted head (map D.state dies.items) }
+    requires image { HaveImage (head_of head) bases.items (map D.state dies.items) }
     requires policies { head.shape.channels ≤ vec_len policies }
-    ensures { ServesInput (blank_input (head_of head) trace.now) (map D.state dies.items)
-        (map (λ policy. P.told policy) policies.items) (map D.state result.dies.items) result.outcome }
+    ensures { (saved : List ChannelImage) → AreOfDrive (head_of head) saved bases.items (map D.state dies.items)
+        → ServesInput (record { head = head_of head; channels = saved; calls = trace.now }) (told_settings settings)
+        (map D.state dies.items) (map (λ policy. P.told policy) policies.items) (map D.state result.dies.items)
+        result.outcome }
 {
     let mut left = dies;
-    let Ok(mut worker) = worker_of(alloc, &head) else {
+    let Ok(mut worker) = worker_of(alloc, &head, lanes_of(settings.lanes)) else {
         return out_of_memory(left);
     };
-    let Ok(mut channels) = begin_channels(alloc, &head, &mut left, policies, LIMIT) else {
+    let Ok(mut channels) = begin_channels(
+        alloc,
+        &head,
+        bases,
+        &mut left,
+        policies,
+        settings.history,
+    ) else {
         return out_of_memory(left);
     };
     let answered = serve_trace(alloc, &mut worker, &mut channels, trace);
@@ -130,7 +136,7 @@ fn serve<D: Die, P: Policy>(
         return out_of_memory(Vec::new(alloc));
     };
     let outcome = match answered {
-        Ok(answered) => match printed_of(alloc, head, trace, histories, answered) {
+        Ok(answered) => match printed_of(alloc, settings.whole, head, trace, histories, answered) {
             Ok(printed) => Ok(printed),
             Err(Memory) => Err(Status::OutOfMemory),
         },
@@ -149,16 +155,19 @@ fn out_of_memory<D: Die>(dies: Vec<D>) -> Answer<D>
     }
 }
 
-// Reads an input and serves it. The dies are mounted once the head of a blank image is read.
+// Reads an input and serves it by settings. The dies are mounted once the head of its image is read, and then its contents are
+// loaded into them.
 pub fn serve_input<S: Source, D: Die, P: Policy>(
     alloc: Global,
+    settings: Settings,
     input: &mut S,
     dies: Vec<D>,
     policies: Vec<P>,
 ) -> Answer<D>
+    requires settings { AreWithin settings }
     requires dies { AreHandedIn (map D.state dies.items) }
     requires policies { vec_len policies ≡ most_channels }
-    ensures ok { IfOk result.outcome (HasServed (S.left input.old) (S.left input.new) (map D.state dies.items)
+    ensures ok { IfOk result.outcome (HasServed (S.left input.old) (S.left input.new) (told_settings settings) (map D.state dies.items)
         (map (λ policy. P.told policy) policies.items) (map D.state result.dies.items)) }
     ensures stays { OnOk result.outcome (S.faults input.new ≡ S.faults input.old) }
     ensures stop { IfErr result.outcome (IsStop (S.faults input.old) (S.faults input.new)) }
@@ -167,24 +176,20 @@ pub fn serve_input<S: Source, D: Die, P: Policy>(
     ensures reads { NeverFell (S.faults input.old) (S.faults input.new) }
 {
     let mut dies = dies;
-    let head = match read_head(alloc, input) {
+    let mut head = match read_head(alloc, input) {
         Ok(head) => head,
         Err(stop) => {
             let outcome = Err(image_status(stop));
             return Answer { outcome, dies };
         }
     };
-    if head.full {
-        let outcome = Err(Status::NotBuilt);
-        return Answer { outcome, dies };
-    }
-    match mount_drive(alloc, &head, &mut dies) {
-        Ok(()) => {}
-        Err(stop) => {
-            let outcome = Err(mount_status(stop));
+    let bases = match load_drive(alloc, input, &mut head, &mut dies) {
+        Ok(bases) => bases,
+        Err(status) => {
+            let outcome = Err(status);
             return Answer { outcome, dies };
         }
-    }
+    };
     let trace = match read_trace(alloc, input, &head) {
         Ok(trace) => trace,
         Err(stop) => {
@@ -192,5 +197,5 @@ pub fn serve_input<S: Source, D: Die, P: Policy>(
             return Answer { outcome, dies };
         }
     };
-    serve(alloc, head, &trace, dies, policies)
+    serve(alloc, settings, head, bases, &trace, dies, policies)
 }

@@ -32,7 +32,7 @@ pub enum Status {
     OutOfMemory,
     /// This die, counted over all channels, failed before the first call.
     DieFailed { die: u8 },
-    /// The image has contents, which aren't read today.
+    /// The image has contents, or a drive is to be saved: neither is served today.
     NotBuilt,
 }
 

@@ -34,8 +34,8 @@ fn copied(alloc: Global, list: &Items<i16>) -> Result<Items<i16>, Memory>
     }
 }
 
-// The worker of the drive that an image's head tells of.
-pub fn worker_of(alloc: Global, head: &ImageHead) -> Result<Worker, Memory>
+// The worker of the drive that an image's head tells of. It decodes on so many lanes.
+pub fn worker_of(alloc: Global, head: &ImageHead, lanes: Lanes) -> Result<Worker, Memory>
     requires { IsHead (head_of head.now) }
     ensures { IfOk result (IsWorkerOf (head_of head.now)) }
 {
@@ -47,7 +47,7 @@ pub fn worker_of(alloc: Global, head: &ImageHead) -> Result<Worker, Memory>
         head.session,
         code,
         head.iterations,
-        Lanes::Sixteen,
+        lanes,
         read_levels,
         head.step,
     )
