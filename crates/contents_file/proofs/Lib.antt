@@ -1,0 +1,4 @@
+pub mod BlockBytes
+pub mod DieSteps
+pub mod PutSteps
+pub mod SpelledBytes
