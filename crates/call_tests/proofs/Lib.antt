@@ -1,0 +1,2 @@
+mod TriedCalls
+mod SmallStart
