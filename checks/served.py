@@ -4,7 +4,7 @@ plain simulation.
 
 The simulation (`checks/simulation`) is written from the formats and rules of docs/, and shares nothing with
 the program: it reads images of both versions and traces with their first faults, and serves every call on a
-blank drive, with the noise of its cells, its weak blocks, the decoder of each codeword of a page, read retry,
+drive, with the noise of its cells, its weak blocks, the decoder of each codeword of a page, read retry,
 rounds of collection, the queue of hints and the limit of a history. It is itself compared with worked examples.
 
 usage: served.py PROGRAM        (prints what differs; exits 0 where nothing does, 1 otherwise)
@@ -16,7 +16,7 @@ import sys
 from collections import Counter
 
 from simulation import faulty_heads, made_inputs
-from simulation.run import simulated
+from simulation.run import CONTENTS_ARE_SERVED, saved_after, simulated
 from simulation.worked_rows import IMAGE, ROWS, TWO_CODEWORDS, changed, trace, weakened, wrong_parts
 
 top = pathlib.Path(__file__).resolve().parent.parent
@@ -213,6 +213,19 @@ class Check:
             lines = made_inputs.refreshing_trace(rng, image)
             self.expect_simulated(f"input {n} refreshed while room is made", image + lines)
 
+    def saved_drives(self):
+        """Drives as a run left them, where the program serves images with contents."""
+        rng = random.Random(20261207)
+        images = [made_inputs.quiet_image, made_inputs.weak_image, made_inputs.noisy_image, made_inputs.lossy_image]
+        for n in range(60 if CONTENTS_ARE_SERVED else 0):
+            image = images[n % len(images)](rng, CODEWORDS[n // len(images) % len(CODEWORDS)])
+            traces = [made_inputs.collecting_trace, made_inputs.refreshing_trace, made_inputs.filling_trace]
+            full = saved_after(image + rng.choice(traces)(rng, image))
+            given = full + rng.choice(traces)(rng, image)
+            if n % 5 == 4:
+                given = made_inputs.damaged(rng, given)
+            self.expect_simulated(f"saved input {n}", given)
+
     def long_histories(self):
         """A history that fills up to its last entry, one whose last look is one entry too late, and two that end in a
         drain: before its first refresh, and after that."""
@@ -226,8 +239,9 @@ class Check:
 
     def words_and_devices(self):
         example = (top / "crates/ssd/stdin").read_bytes()
-        for words in ([], ["save"], ["run", "run"], ["run", "--lanes=4"], [""]):
+        for words in ([], ["race"], ["run", "run"], ["run", "--lanes=3"], ["format", "--lanes=4"], ["gen"], [""]):
             self.expect(f"the words {words}", words, example, 2, "", "words refused\n")
+        self.expect("a drive to save", ["save"], example, 10, "", "not built\n")
         with open("/dev/full", "wb") as full:
             run = subprocess.run(
                 [self.program, "run"], input=example, stdout=full, stderr=subprocess.PIPE, timeout=60)
@@ -244,6 +258,7 @@ check.random_drives()
 check.weak_drives()
 check.collections()
 check.refreshes()
+check.saved_drives()
 check.long_histories()
 check.words_and_devices()
 check.wrong += [f"never came up: {what}" for what in NEEDED_ONCE if not check.events[what]]

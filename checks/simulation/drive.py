@@ -58,6 +58,11 @@ class Cells:
         for place in [place for place in self.levels if place[1] == sb]:
             del self.levels[place]
 
+    def erase_below(self, below, sb):
+        """Erases the blocks of a superblock that turns bad, up to the die that answered FAIL."""
+        for place in [place for place in self.levels if place[1] == sb and place[0] < below]:
+            del self.levels[place]
+
     def sense(self, place, level):
         return int("".join(["1" if g < level else "0" for g in reversed(self.levels[place])]), 2)
 
@@ -345,6 +350,8 @@ class Channel:
         self.ladders.clear()
         weak = [die for die in range(self.head.dies) if self.is_weak(die, sb)]
         if weak:
+            self.used[sb] = 0
+            self.cells.erase_below(weak[0], sb)
             self.add(tag, "bad", f"erase {sb} {weak[0]} fail")
             return f"retired {sb}"
         self.cells.erase(sb)

@@ -10,7 +10,7 @@ class Stop(Exception):
     """A run that ends with this status and text before any call is served."""
 
     def __init__(self, status, text):
-        super().__init__(text)
+        super().__init__(status, text)
         self.status, self.text = status, text
 
 
@@ -134,7 +134,8 @@ class Head:
             if self.bad and record <= self.bad[-1]:
                 image_fault(at, "order")
             self.bad.append(record)
-            if self.rows > max(len(self.good(channel)) - 2, 0) * self.slots:
+            left = self.superblocks - 2 - sum([owner == channel for owner, _ in self.bad])
+            if self.rows > max(left, 0) * self.slots:
                 image_fault(at, "range")
 
     @property

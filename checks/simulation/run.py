@@ -2,21 +2,26 @@
 from collections import Counter, deque
 
 from .code import Code, Pages
+from .contents import fill, read_contents, saved
 from .drive import Channel, HistoryLimit
 from .inputs import Head, Stop, read_trace
 
 HISTORY_LIMIT = 2 ** 22
 HINTS = 256
+# Whether the program serves an image with contents, or answers that this isn't built.
+CONTENTS_ARE_SERVED = True
 
 
 class Run:
     """The calls of a trace, served in the order of its lines."""
 
-    def __init__(self, head, actors, events):
+    def __init__(self, head, actors, contents, events):
         self.head, self.events = head, events
         pages = Pages(Code(head.lifting, head.base_rows), head.words)
         numbers = range(head.channels)
         self.channels = [Channel(head, pages, n, HISTORY_LIMIT, events) for n in numbers]
+        for channel, told in zip(self.channels, contents):
+            fill(channel, told)
         self.replies = [[] for _ in range(actors)]
         self.writes, self.reads, self.rungs, self.trims = Counter(), Counter(), Counter(), 0
         self.hints, self.pushed, self.dropped, self.taken = deque(), 0, 0, 0
@@ -114,16 +119,24 @@ class Run:
         )
 
 
-def simulated(data, events):
+def begun(data, events, serves_contents):
+    """The run of an input before its first call, and the calls."""
+    head, contents = Head(data), []
+    at = head.size
+    if head.full:
+        if not serves_contents:
+            raise Stop(10, "not built\n")
+        contents, at = read_contents(data, head)
+    actors, calls = read_trace(head, data[at:])
+    return Run(head, actors, contents, events), calls
+
+
+def simulated(data, events, serves_contents=CONTENTS_ARE_SERVED):
     """The status, the output and the text on standard error. `events` counts what came up."""
     try:
-        head = Head(data)
-        if head.full:
-            raise Stop(10, "not built\n")
-        actors, calls = read_trace(head, data[head.size:])
+        run, calls = begun(data, events, serves_contents)
     except Stop as stop:
         return stop.status, "", stop.text
-    run = Run(head, actors, events)
     try:
         for call in calls:
             run.serve(call)
@@ -135,3 +148,12 @@ def simulated(data, events):
         events["hints dropped"] += run.dropped
         events["hints taken"] += run.taken
     return 0, run.text(), ""
+
+
+def saved_after(data, change=lambda run: None):
+    """The full image of the drive after all calls of an input, and after a change of the run."""
+    run, calls = begun(data, Counter(), True)
+    for call in calls:
+        run.serve(call)
+    change(run)
+    return saved(data, run)
