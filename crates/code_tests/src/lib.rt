@@ -11,6 +11,8 @@ mod kept_codewords;
 #[cfg(test)]
 mod ladders;
 #[cfg(test)]
+mod lanes;
+#[cfg(test)]
 mod layers;
 #[cfg(test)]
 mod matrices;
