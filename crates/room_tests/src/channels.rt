@@ -184,6 +184,11 @@ fn entry(call: u32, kind: Kind) -> Entry {
     }
 }
 
+// The entry of a write.
+fn write_entry(call: u32, row: u32, slot: Slot) -> Entry {
+    entry(call, Kind::Write { row, slot })
+}
+
 // Writes a word of a row.
 fn write<P: Policy>(
     channel: &mut Channel<FaultyDie, P>,
@@ -306,6 +311,35 @@ fn is_written(answer: Result<WriteAnswer, StepStop>, slot: Slot) -> bool {
     answer == Ok(WriteAnswer::Written { slot })
 }
 
+// Row 3 is written twice and looked at, its newer page is sensed, and the look is left.
+fn entries_of_a_read() -> [Entry; 5] {
+    let found = Row::Page {
+        slot: slot(0, 1),
+        serial: 1,
+    };
+    [
+        write_entry(0, 3, slot(0, 0)),
+        write_entry(1, 3, slot(0, 1)),
+        entry(
+            2,
+            Kind::Look {
+                row: 3,
+                found,
+                closed: true,
+            },
+        ),
+        entry(
+            2,
+            Kind::Sense {
+                at: 2,
+                place: PLACE,
+                level: 0,
+            },
+        ),
+        entry(2, Kind::Leave { at: 2 }),
+    ]
+}
+
 #[test]
 fn a_row_is_written_again_and_read(rt: HostRuntime) -> Result<(), Fail> {
     let mut channel = begun(rt.alloc(), Greedy::new(), 4096)?;
@@ -324,43 +358,7 @@ fn a_row_is_written_again_and_read(rt: HostRuntime) -> Result<(), Fail> {
         Ok(LookAnswer::Found(look))
     );
     assert_eq!(rt; out, SECOND);
-    let found = Row::Page {
-        slot: slot(0, 1),
-        serial: 1,
-    };
-    let history = [
-        entry(
-            0,
-            Kind::Write {
-                row: 3,
-                slot: slot(0, 0),
-            },
-        ),
-        entry(
-            1,
-            Kind::Write {
-                row: 3,
-                slot: slot(0, 1),
-            },
-        ),
-        entry(
-            2,
-            Kind::Look {
-                row: 3,
-                found,
-                closed: true,
-            },
-        ),
-        entry(
-            2,
-            Kind::Sense {
-                at: 2,
-                place: PLACE,
-                level: 0,
-            },
-        ),
-        entry(2, Kind::Leave { at: 2 }),
-    ];
+    let history = entries_of_a_read();
     assert_eq!(rt; channel.history(), history.as_slice());
     assert_eq!(rt; channel.finish().1.as_slice(), history.as_slice());
     Ok(())

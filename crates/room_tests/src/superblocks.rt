@@ -107,102 +107,130 @@ fn row(rt: &impl Abort, blocks: &mut Blocks, step: Call, sb: u16, after: BlockBa
     assert_eq!(rt; blocks.any_room(), sees.2.is_some());
 }
 
-#[test]
-fn superblocks_change_by_each_call(rt: HostRuntime) -> Result<(), Fail> {
-    let mut five = five_blocks(rt.alloc())?;
-    let b = &mut five;
-    assert_eq!(rt; seen(b), (2, None, Some(slot(1, 3)), true));
-    // The frontier's last slot seals it, and the freshest free superblock is next.
+// The frontier's last slot seals it, and the freshest free superblock is next.
+fn seal_and_mark(rt: &impl Abort, blocks: &mut Blocks)
+    requires { length blocks.old.blocks ≡ 5 }
+    ensures { length blocks.new.blocks ≡ 5 }
+{
     row(
-        &rt,
-        b,
+        rt,
+        blocks,
         Call::Take(slot(1, 3)),
         1,
         block(SbState::Sealed, 0, 4),
         (2, None, Some(slot(3, 0)), true),
     );
     row(
-        &rt,
-        b,
+        rt,
+        blocks,
         Call::Take(slot(3, 0)),
         3,
         block(SbState::Frontier, 1, 1),
         (1, None, Some(slot(3, 1)), true),
     );
     row(
-        &rt,
-        b,
+        rt,
+        blocks,
         Call::Mark(0),
         0,
         block(SbState::Victim, 2, 4),
         (1, Some(0), Some(slot(3, 1)), true),
     );
-    // A bad superblock keeps the number of the slot that failed.
+}
+
+// A bad superblock keeps the number of the slot that failed.
+fn retire_the_frontier_and_erase(rt: &impl Abort, blocks: &mut Blocks)
+    requires { length blocks.old.blocks ≡ 5 }
+    ensures { length blocks.new.blocks ≡ 5 }
+{
     row(
-        &rt,
-        b,
+        rt,
+        blocks,
         Call::Retire(3),
         3,
         block(SbState::Bad, 1, 1),
         (1, Some(0), Some(slot(2, 0)), false),
     );
     row(
-        &rt,
-        b,
+        rt,
+        blocks,
         Call::Take(slot(2, 0)),
         2,
         block(SbState::Frontier, 5, 1),
         (0, Some(0), Some(slot(2, 1)), false),
     );
     row(
-        &rt,
-        b,
+        rt,
+        blocks,
         Call::Erased(0),
         0,
         block(SbState::Free, 3, 0),
         (1, None, Some(slot(2, 1)), true),
     );
-    // A victim whose erase failed has no slot used.
+}
+
+// A victim whose erase failed has no slot used.
+fn retire_the_victim(rt: &impl Abort, blocks: &mut Blocks)
+    requires { length blocks.old.blocks ≡ 5 }
+    ensures { length blocks.new.blocks ≡ 5 }
+{
     row(
-        &rt,
-        b,
+        rt,
+        blocks,
         Call::Mark(1),
         1,
         block(SbState::Victim, 0, 4),
         (1, Some(1), Some(slot(2, 1)), true),
     );
     row(
-        &rt,
-        b,
+        rt,
+        blocks,
         Call::Retire(1),
         1,
         block(SbState::Bad, 0, 0),
         (1, None, Some(slot(2, 1)), true),
     );
+}
+
+// A free superblock, the frontier and a sealed superblock go bad, and there is no room.
+fn retire_the_others(rt: &impl Abort, blocks: &mut Blocks)
+    requires { length blocks.old.blocks ≡ 5 }
+    ensures { length blocks.new.blocks ≡ 5 }
+{
     row(
-        &rt,
-        b,
+        rt,
+        blocks,
         Call::Retire(0),
         0,
         block(SbState::Bad, 3, 0),
         (0, None, Some(slot(2, 1)), false),
     );
     row(
-        &rt,
-        b,
+        rt,
+        blocks,
         Call::Retire(2),
         2,
         block(SbState::Bad, 5, 1),
         (0, None, None, false),
     );
     row(
-        &rt,
-        b,
+        rt,
+        blocks,
         Call::Retire(4),
         4,
         block(SbState::Bad, 0, 4),
         (0, None, None, false),
     );
+}
+
+#[test]
+fn superblocks_change_by_each_call(rt: HostRuntime) -> Result<(), Fail> {
+    let mut blocks = five_blocks(rt.alloc())?;
+    assert_eq!(rt; seen(&blocks), (2, None, Some(slot(1, 3)), true));
+    seal_and_mark(&rt, &mut blocks);
+    retire_the_frontier_and_erase(&rt, &mut blocks);
+    retire_the_victim(&rt, &mut blocks);
+    retire_the_others(&rt, &mut blocks);
     Ok(())
 }
 

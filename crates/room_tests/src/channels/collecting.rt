@@ -12,6 +12,7 @@ use chan_state::{
 };
 use ssd_geo::{Entry, Kind, Place, Row, SbInfo, StepStop, Tag};
 use std::alloc::Global;
+use std::process::Abort;
 use std::test::Fail;
 use victim::{Greedy, Policy};
 
@@ -128,6 +129,13 @@ const FIRST_PLACE: Place = Place {
     page: 0,
 };
 
+// The place of slot 3 of superblock 0.
+const LAST_PLACE: Place = Place {
+    die: 2,
+    sb: 0,
+    page: 1,
+};
+
 // A policy that answers the same superblock always, whether it may be picked or not.
 #[derive(Drop)]
 struct Always {
@@ -211,42 +219,13 @@ fn moved_live<P: Policy>(
     Ok(Some(moved(channel, by, look.at, &word)))
 }
 
-#[test]
-fn a_collection_moves_what_is_live_and_erases(rt: HostRuntime) -> Result<(), Fail> {
-    let mut channel = filled(rt.alloc(), Always { sb: 65535 })?;
-    assert_eq!(rt;
-        write(&mut channel, 12, 5, &SECOND),
-        Ok(WriteAnswer::NeedRoom)
-    );
-    assert_eq!(rt;
-        picked(&mut channel, tag(12)),
-        Ok(PickAnswer::Picked { sb: 0 })
-    );
-    assert_eq!(rt;
-        erased(&mut channel, tag(12), 0),
-        Ok(EraseAnswer::Live { count: 1 })
-    );
-    let place = Place {
-        die: 2,
-        sb: 0,
-        page: 1,
-    };
-    let moved = MoveAnswer::Moved { slot: slot(3, 0) };
-    assert_eq!(rt;
-        moved_live(&mut channel, tag(12), 0, place),
-        Ok(Some(moved))
-    );
-    assert_eq!(rt;
-        looked_live(&mut channel, tag(12), 0),
-        Ok(LiveAnswer::NoneLive)
-    );
-    assert_eq!(rt; erased(&mut channel, tag(12), 0), Ok(EraseAnswer::Erased));
-    assert!(rt; is_written(write(&mut channel, 12, 5, &SECOND), slot(3, 1)));
+// What a collection enters that moves the one live page of superblock 0, and the write after it.
+fn kinds_of_a_collection() -> [Kind; 7] {
     let found = Row::Page {
         slot: slot(0, 3),
         serial: 3,
     };
-    let collected = [
+    [
         Kind::Pick { sb: 0 },
         Kind::Look {
             row: 3,
@@ -255,7 +234,7 @@ fn a_collection_moves_what_is_live_and_erases(rt: HostRuntime) -> Result<(), Fai
         },
         Kind::Sense {
             at: 13,
-            place,
+            place: LAST_PLACE,
             level: 0,
         },
         Kind::Move {
@@ -268,7 +247,40 @@ fn a_collection_moves_what_is_live_and_erases(rt: HostRuntime) -> Result<(), Fai
             row: 5,
             slot: slot(3, 1),
         },
-    ];
+    ]
+}
+
+// A full channel has a victim, which isn't erased while a page of it is live.
+fn pick_a_live_victim<P: Policy>(rt: &impl Abort, channel: &mut Channel<FaultyDie, P>)
+    requires { IsTried channel.old.kept }
+    ensures { IsTried channel.new.kept }
+{
+    assert_eq!(rt; write(channel, 12, 5, &SECOND), Ok(WriteAnswer::NeedRoom));
+    assert_eq!(rt; picked(channel, tag(12)), Ok(PickAnswer::Picked { sb: 0 }));
+    let answer = erased(channel, tag(12), 0);
+    assert_eq!(rt; answer, Ok(EraseAnswer::Live { count: 1 }));
+}
+
+// The live page is moved, and the superblock is erased, which gives room for a write.
+fn empty_the_victim<P: Policy>(rt: &impl Abort, channel: &mut Channel<FaultyDie, P>)
+    requires { IsTried channel.old.kept }
+    ensures { IsTried channel.new.kept }
+{
+    let moved = MoveAnswer::Moved { slot: slot(3, 0) };
+    let answer = moved_live(channel, tag(12), 0, LAST_PLACE);
+    assert_eq!(rt; answer, Ok(Some(moved)));
+    let live = looked_live(channel, tag(12), 0);
+    assert_eq!(rt; live, Ok(LiveAnswer::NoneLive));
+    assert_eq!(rt; erased(channel, tag(12), 0), Ok(EraseAnswer::Erased));
+    assert!(rt; is_written(write(channel, 12, 5, &SECOND), slot(3, 1)));
+}
+
+#[test]
+fn a_collection_moves_what_is_live_and_erases(rt: HostRuntime) -> Result<(), Fail> {
+    let mut channel = filled(rt.alloc(), Always { sb: 65535 })?;
+    pick_a_live_victim(&rt, &mut channel);
+    empty_the_victim(&rt, &mut channel);
+    let collected = kinds_of_a_collection();
     assert_eq!(rt; channel.history().len(), 12 + collected.len());
     for (at, kind) in collected.iter().enumerate() {
         assert_eq!(rt;

@@ -2,9 +2,11 @@ ghost use Rattle.std.specs.Prelude.{◌<◌};
 ghost use Rattle.room_tests.specs.SmallChannel.{IsTried};
 ghost use Rattle.room_tests.specs.OpenLooks.{IsLooked};
 
-use super::{FIRST, FaultyDie, SECOND, begun, entry, is_written, looked, read, slot, tag, write};
+use super::{
+    FIRST, FaultyDie, SECOND, begun, entry, is_written, looked, read, slot, tag, write, write_entry,
+};
 use chan_state::{Channel, CondemnAnswer, LookAnswer, MoveAnswer};
-use ssd_geo::{Kind, Look, Row, StepStop, Tag};
+use ssd_geo::{Entry, Kind, Look, Row, StepStop, Tag};
 use std::test::Fail;
 use victim::{Greedy, Policy};
 
@@ -88,24 +90,14 @@ fn condemned<P: Policy>(
     Ok(Some(condemned_for(channel, by, look.at)))
 }
 
-#[test]
-fn a_copy_keeps_the_serial_of_its_page(rt: HostRuntime) -> Result<(), Fail> {
-    let mut channel = begun(rt.alloc(), Greedy::new(), 4096)?;
-    assert!(rt; is_written(write(&mut channel, 7, 0, &FIRST), slot(0, 0)));
-    let moved = MoveAnswer::Moved { slot: slot(0, 1) };
-    assert_eq!(rt; copied(&mut channel, 8, 0, &FIRST), Ok(Some(moved)));
+// Row 0 is written by call 7, and copied by call 8.
+fn entries_of_a_copy() -> [Entry; 4] {
     let found = Row::Page {
         slot: slot(0, 0),
         serial: 7,
     };
-    let history = [
-        entry(
-            7,
-            Kind::Write {
-                row: 0,
-                slot: slot(0, 0),
-            },
-        ),
+    [
+        write_entry(7, 0, slot(0, 0)),
         entry(
             8,
             Kind::Look {
@@ -122,7 +114,16 @@ fn a_copy_keeps_the_serial_of_its_page(rt: HostRuntime) -> Result<(), Fail> {
             },
         ),
         entry(8, Kind::Leave { at: 1 }),
-    ];
+    ]
+}
+
+#[test]
+fn a_copy_keeps_the_serial_of_its_page(rt: HostRuntime) -> Result<(), Fail> {
+    let mut channel = begun(rt.alloc(), Greedy::new(), 4096)?;
+    assert!(rt; is_written(write(&mut channel, 7, 0, &FIRST), slot(0, 0)));
+    let moved = MoveAnswer::Moved { slot: slot(0, 1) };
+    assert_eq!(rt; copied(&mut channel, 8, 0, &FIRST), Ok(Some(moved)));
+    let history = entries_of_a_copy();
     assert_eq!(rt; channel.history(), history.as_slice());
     let look = Look {
         at: 4,
