@@ -30,7 +30,7 @@ from collections import Counter
 from simulation import faulty_contents
 from simulation.hostile_inputs import damaged_inputs, good_inputs
 from simulation.made_inputs import Drive
-from simulation.run import CONTENTS_ARE_SERVED, simulated
+from simulation.run import CONTENTS_ARE_SERVED, formatted, simulated
 
 SECONDS = 60
 # Each drive of these inputs takes a few megabytes.
@@ -94,8 +94,15 @@ def prepared(program, memory):
 def tried(case):
     """What came up with a damaged input, and what is wrong."""
     kind, given = case
-    due = due_of(given)
-    return outcome_of(due), difference(f"{kind}: {given[:9000].hex()}", ended(tried_program, given), due)
+    word = "format" if kind.startswith("format") else "run"
+    due = formatted(given) if word == "format" else due_of(given)
+    return outcome_of(due), difference(f"{kind}: {given[:9000].hex()}", ended(tried_program, given, (word,)), due)
+
+
+def with_formats(cases):
+    """The cases, and one in six of those whose image is damaged once more for `format`."""
+    images = [case for case in cases if "image" in case[0] or "cut" in case[0] or "contents" in case[0] or "edges" in case[0]]
+    return cases + [(f"format, {kind}", given) for kind, given in images[::6]]
 
 
 class Check:
@@ -114,7 +121,7 @@ class Check:
         self.note(kind, difference(what, got, due))
 
     def damaged(self):
-        cases = damaged_inputs()[::self.one_in]
+        cases = with_formats(damaged_inputs())[::self.one_in]
         with multiprocessing.get_context("fork").Pool(4, prepared, (self.program, self.memory)) as pool:
             for (kind, _), (outcome, wrong) in zip(cases, pool.imap(tried, cases, chunksize=16)):
                 self.outcomes[outcome] += 1

@@ -150,12 +150,16 @@ def row_bytes(channel, row):
     return struct.pack("<BHIQ", PAGE, *channel.rows[row])
 
 
+def head_again(given, head):
+    """The head of a given image in the second version, with the next session, up to the byte that tells of contents."""
+    second = given[:head.size] if given[7:8] == b"2" else b"SSDIMG02\1" + given[8:head.size]
+    return second[:37] + struct.pack("<I", (head.session + 1) % 2 ** 24) + second[41:-1]
+
+
 def saved(given, run):
     """The full image, in the second version, of a drive as a run of the given input left it."""
-    head, size = run.head, run.head.size
-    second = given[:size] if given[7:8] == b"2" else b"SSDIMG02\1" + given[8:size]
-    session = struct.pack("<I", (head.session + 1) % 2 ** 24)
-    out = second[:37] + session + second[41:-1] + b"\1"
+    head = run.head
+    out = head_again(given, head) + b"\1"
     for channel in run.channels:
         out += b"".join([superblock_bytes(channel, sb) for sb in range(head.superblocks)])
         out += b"".join([row_bytes(channel, row) for row in range(head.rows)])

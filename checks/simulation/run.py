@@ -2,7 +2,7 @@
 from collections import Counter, deque
 
 from .code import Code, Pages
-from .contents import fill, read_contents, saved
+from .contents import fill, head_again, read_contents, saved
 from .drive import Channel, HistoryLimit
 from .inputs import Head, Stop, read_trace
 
@@ -148,6 +148,17 @@ def simulated(data, events, serves_contents=CONTENTS_ARE_SERVED):
         events["hints dropped"] += run.dropped
         events["hints taken"] += run.taken
     return 0, run.text(), ""
+
+
+def formatted(data):
+    """The status, the output and the text on standard error of `ssd format`."""
+    try:
+        head = Head(data)
+        if head.full:
+            read_contents(data, head)
+    except Stop as stop:
+        return stop.status, b"", stop.text.encode()
+    return 0, head_again(data, head) + b"\0", b""
 
 
 def saved_after(data, change=lambda run: None):
