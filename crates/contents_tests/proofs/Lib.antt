@@ -1,2 +1,3 @@
 pub mod BegunRows
 pub mod DriveDies
+pub mod WrittenBases

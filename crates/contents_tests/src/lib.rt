@@ -10,3 +10,5 @@ mod channels;
 mod faults;
 #[cfg(test)]
 mod images;
+#[cfg(test)]
+mod written;
