@@ -6,8 +6,9 @@ use Rattle.std.proofs.lemmas.List.Folds.{list_all_at}
 use Rattle.std.proofs.lemmas.List.Sums.{position_or_len_is}
 use Rattle.ssd_histories.specs.Blocks.{blank_block, block_at, free_blocks_in, freshest_of, frontier_of, has_any_room, is_free_block, is_freshest, is_no_fresher}
 use Rattle.ssd_geo.specs.declared.base.BlockBase.{BlockBase}
-use Rattle.allocator.proofs.Places.{all_from, none_counted, not_placed, placed}
+use Rattle.allocator.proofs.Places.{none_counted}
 use Rattle.allocator.specs.Superblocks.{beats, best_with}
+use Rattle.shared_lemmas.proofs.Positions.{all_from, not_placed, placed}
 
 -- whether the superblock with this number is free, and how often it was erased
 abbrev free_at : List BlockBase → ℕ → Bool

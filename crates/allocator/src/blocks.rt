@@ -8,7 +8,7 @@ use crate::states::{
     erased_once, followed, is_free, is_frontier, is_victim, made_victim, recounted, retired,
     used_once,
 };
-use ssd_geo::{BlockBase, Slot};
+use ssd_geo::{BlockBase, Items, Slot};
 use std::marker::Model;
 
 /// The superblocks of a channel. At most one is the frontier and at most one the victim, and each has as many slots
@@ -161,6 +161,15 @@ impl Blocks {
         ensures { result ≡ free_blocks_in self.now.blocks }
     {
         self.free
+    }
+
+    /// Gives the superblocks back, in the order of their numbers.
+    pub fn into_items(self) -> Items<BlockBase>
+        ensures value { result ≡ self.blocks }
+        ensures sound { AreSound self.slots self.blocks }
+    {
+        let Blocks { blocks, .. } = self;
+        Items::new(blocks)
     }
 
     // Puts a superblock in the place of another, and keeps the frontier, the victim and the number of free ones.

@@ -6,7 +6,7 @@ use Rattle.std.proofs.Math.Nat.{mul-le-mul}
 use Rattle.std.proofs.Math.Seq.{drop-drop, take-suc}
 use Rattle.std.proofs.lemmas.List.{get_or-drop, get_or-take, get_or-map, length-drop, length-map, length-replicate, length-take-le, map-append}
 use Rattle.std.proofs.lemmas.Nat.{div-mul-add, mod-mul-add}
-use Rattle.std.proofs.lemmas.Option.{get_or_from_slice_get, slice_get-get_or, slice_get_within}
+use Rattle.std.proofs.lemmas.Option.{get_or_from_slice_get, slice_get-get_or, slice_get_within, same_Some}
 use Rattle.chan_dies.specs.DiesState.{blocks_in, die_at, no_die}
 use Rattle.chan_state.specs.ChannelState.{ChannelState}
 use Rattle.chan_state.specs.Starting.{HasBegun, IsDieOf, MayBegin, start_of}
@@ -125,15 +125,12 @@ are_dies_of head dies channel ready within own are =
           (ready.each (start + number) die (omega (arith, room, below)) place);
     }
 
-same_of : {A : Type 0} (x y : A) → ◌≡◌ {A = Option A} (Some x) (Some y) → x ≡ y
-same_of x y same = cc
-
 -- what is at a place of a list with one more at its end
 at_end : (P : ℕ → ChannelState → Type 0) (from : ℕ) (before : List ChannelState) (next : ChannelState)
     → ((number : ℕ) (channel : ChannelState) → slice_get before number ≡ Some channel → P (from + number) channel)
     → P (from + length before) next → (number : ℕ) (channel : ChannelState) → slice_get (before ++ next ∷ []) number ≡ Some channel
     → P (from + number) channel
-at_end P from [] next each last zero channel same = subst (P (from + 0)) (same_of next channel same) last
+at_end P from [] next each last zero channel same = subst (P (from + 0)) (same_Some next channel same) last
 at_end P from [] next each last (suc number) channel same = absurd (cc)
 at_end P from (first ∷ before) next each last zero channel same = each zero channel same
 at_end P from (first ∷ before) next each last (suc number) channel same =

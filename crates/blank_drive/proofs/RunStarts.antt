@@ -17,9 +17,7 @@ use Rattle.ssd_geo.specs.declared.shape.Shape.{Shape}
 use Rattle.ssd_histories.specs.Start.{Start}
 use Rattle.blank_drive.proofs.SameSizes.{same_shape}
 use Rattle.blank_drive.specs.Begun.{AreBegun, IsBegun, StandAtStarts}
-
-same_of : {A : Type 0} (x y : A) → ◌≡◌ {A = Option A} (Some x) (Some y) → x ≡ y
-same_of x y same = cc
+use Rattle.std.proofs.lemmas.Option.{same_Some}
 
 -- the start of a number among those of a run
 pub start_at : (shape : Shape) (head : Head) (limit : ℕ) (saved : ℕ → ChannelImage) (handed : ℕ → Handed) (count from number : ℕ) (start : Start)
@@ -29,7 +27,7 @@ pub start_at : (shape : Shape) (head : Head) (limit : ℕ) (saved : ℕ → Chan
 start_at shape head limit saved handed zero from number start at = absurd (cc)
 start_at shape head limit saved handed (suc count) from zero start at =
     subst (λ (n : ℕ). start ≡ start_of shape head limit n (saved n) (handed n)) (sym (add-zero from))
-    (sym (same_of (start_of shape head limit from (saved from) (handed from)) start at))
+    (sym (same_Some (start_of shape head limit from (saved from) (handed from)) start at))
 start_at shape head limit saved handed (suc count) from (suc number) start at =
     let sum : from + 1 + number ≡ from + suc number = omega arith in
     subst (λ (n : ℕ). start ≡ start_of shape head limit n (saved n) (handed n)) sum

@@ -1,5 +1,5 @@
 //! The channels of a blank drive: they begin as the head of an image tells, each with its dies and its policy, and give their
-//! dies and histories back at the end. It knows no call of a host.
+//! dies, histories and bases back at the end. It knows no call of a host.
 #![tactic(auto)]
 
 mod beginning;

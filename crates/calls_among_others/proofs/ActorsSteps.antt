@@ -3,7 +3,7 @@
 use Rattle.std.proofs.Common.{ℕ, suc, ◌≡◌, ◌+◌, ◌<◌, ◌≤◌, ◌==◌, ◌&&◌, ◌||◌, not, Bool, true, false, List, [], ◌∷◌, ◌++◌, length, map, refl, sym, ap, subst, ◌∙◌, eqb-true, arith}
 use Rattle.std.specs.Prelude.{All, nat_le}
 use Rattle.std.specs.List.{list_all}
-use Rattle.std.proofs.lemmas.Bool.{and_parts}
+use Rattle.std.proofs.lemmas.Bool.{and_parts, false_from_ne_true as not_true, or_left, or_right}
 use Rattle.std.proofs.lemmas.Bool.Decides.{nat_tests}
 use Rattle.std.proofs.lemmas.List.Elements.{All-cons, All-head, All-nil, All-tail, All-weaker}
 use Rattle.ssd_geo.specs.declared.entry.Entry.{Entry}
@@ -14,13 +14,13 @@ use Rattle.ssd_histories.specs.CallSteps.{CallStep, steps_of}
 use Rattle.ssd_histories.specs.CallsInOrder.{AreStepsOf, is_no_later, is_of_call, never_fall}
 use Rattle.ssd_histories.specs.History.{is_same_tag}
 use Rattle.ssd_histories.specs.Start.{Start}
-use Rattle.serial_laws.proofs.Lists.{not_true, same_number}
 use Rattle.serial_laws.proofs.MadeSteps.{faults_in, none_more}
-use Rattle.serial_laws.proofs.NumberedTags.{same_parts, same_tag}
 use Rattle.calls_among_others.specs.ActorsCalls.{AreMadeAmong, CallsAmongAreAsked, EachActorIsKnown, IsAsked, NoActorFalls, first_tag, is_known_of, never_falls_for, next_tag}
 use Rattle.calls_among_others.specs.CallsAmong.{DecideReply, IsCallAmong, ladders}
 use Rattle.calls_among_others.specs.StepsAmong.{AreStepsAmong, HasCome}
-use Rattle.calls_among_others.proofs.AmongSteps.{IsOfOther, came_none, or_first, or_second, steps_are_all}
+use Rattle.calls_among_others.proofs.AmongSteps.{IsOfOther, came_none, steps_are_all}
+use Rattle.shared_lemmas.proofs.Tests.{same_number}
+use Rattle.ssd_histories.proofs.SameTags.{same_parts, same_tag}
 
 -- an entry, if it is an actor's, has a number below this
 abbrev IsUnder : ℕ → ℕ → Entry → Type 0
@@ -86,7 +86,7 @@ none_under actor number tag (entry ∷ past) own late under =
     ∙ none_under actor number tag past own late (All-tail (IsUnder actor number) entry past under)
 
 -- numbers never fall
-order_others : (actor : ℕ) (others before : List Entry) → All (IsOfOther actor) others → never_falls_for actor before ≡ true →
+pub order_others : (actor : ℕ) (others before : List Entry) → All (IsOfOther actor) others → never_falls_for actor before ≡ true →
     never_falls_for actor (others ++ before) ≡ true
 order_others actor [] before all order = order
 order_others actor (entry ∷ others) before all order =
@@ -97,7 +97,7 @@ order_others actor (entry ∷ others) before all order =
     && never_falls_for actor (others ++ before)) other
     ∙ order_others actor others before (All-tail (IsOfOther actor) entry others all) order
 
-order_came : (actor : ℕ) (before after : List Entry) → HasCome actor before after → never_falls_for actor before ≡ true →
+pub order_came : (actor : ℕ) (before after : List Entry) → HasCome actor before after → never_falls_for actor before ≡ true →
     never_falls_for actor after ≡ true
 order_came actor before after came order =
     subst (λ (past : List Entry). never_falls_for actor past ≡ true) (sym came.after_is)
@@ -133,7 +133,7 @@ order_steps tag before after (step ∷ steps) made under order =
     (All-cons (IsUnder tag.actor (suc tag.call)) step.entry step.past (own_under tag step.entry made.1) here)
     (ap (λ (b : Bool). (not (step.entry.tag.actor == tag.actor) || b) && never_falls_for tag.actor step.past) falls
     ∙ ap (λ (b : Bool). b && never_falls_for tag.actor step.past)
-    (or_second (not (step.entry.tag.actor == tag.actor)) true refl)
+    (or_right (not (step.entry.tag.actor == tag.actor)) true refl)
     ∙ order_came tag.actor before step.past made.0 order)
 
 -- each entry is known
@@ -161,10 +161,10 @@ are_in (made ∷ calls) =
     let all : List TraceCall = map (λ made. made.0) calls in
     All-cons (AreIn (made.0 ∷ all)) made calls
     (λ entry own.
-    or_first (is_same_tag made.0.tag entry.tag) (is_of_call all entry)
+    or_left (is_same_tag made.0.tag entry.tag) (is_of_call all entry)
     (subst (λ (t : Tag). is_same_tag made.0.tag t ≡ true) (sym own) (same_tag made.0.tag)))
     (All-weaker (AreIn all) (AreIn (made.0 ∷ all))
-    (λ other there entry own. or_second (is_same_tag made.0.tag entry.tag) (is_of_call all entry) (there entry own)) calls
+    (λ other there entry own. or_right (is_same_tag made.0.tag entry.tag) (is_of_call all entry) (there entry own)) calls
     (are_in calls))
 
 -- the calls of one actor
@@ -243,7 +243,7 @@ module _ (start : Start) (contents : List (Tag × List ℕ)) (channels channel :
       known_at_end all (next_tag tag) calls are.0 after (All-tail (AreIn all) made calls in_all)
       (over_steps (IsKnown tag.actor all) tag.actor (other_known tag.actor all) tag refl
       (λ entry own.
-      or_second (not (entry.tag.actor == tag.actor)) (is_of_call all entry)
+      or_right (not (entry.tag.actor == tag.actor)) (is_of_call all entry)
       (All-head (AreIn all) made calls in_all entry (own ∙ sym are.1)))
       before are.0 are.2.steps are.2.are_steps known) are.3
 

@@ -24,7 +24,6 @@ use Rattle.collector.specs.Emptying.{having_seen}
 use Rattle.collector.specs.declared.replies.CollectReply.{CollectReply}
 use Rattle.collector.specs.declared.replies.RoundReply.{RoundReply}
 use Rattle.collector.specs.declared.replies.RoundReply.TheVariants as round
-use Rattle.serial_laws.proofs.Lists.{neither}
 use Rattle.serial_laws.proofs.LookLists.{by_kind}
 use Rattle.serial_laws.proofs.MadeRounds.{faults_join, none_in_both}
 use Rattle.serial_laws.proofs.MadeSteps.{faults_in}
@@ -35,22 +34,17 @@ use Rattle.calls_among_others.specs.StepsAmong.{AreStepsAmong, HasCome}
 use Rattle.calls_among_others.specs.WholeCalls.{CollectsAmongAreCollects}
 use Rattle.calls_among_others.proofs.AmongCopies.{came, one_made}
 use Rattle.calls_among_others.proofs.AmongHosts.{own_fact, own_steps}
-use Rattle.calls_among_others.proofs.AmongRounds.{RoundMade, in_collect, nothing_live, round_made}
-use Rattle.calls_among_others.proofs.AmongSteps.{among_join, late_more, lawful_among, or_first, or_second}
+use Rattle.calls_among_others.proofs.AmongRounds.{RoundMade, nothing_live, round_made}
+use Rattle.calls_among_others.proofs.AmongSteps.{among_join, late_more, lawful_among}
 use Rattle.calls_among_others.proofs.LookSteps.{made_step, none_first}
+use Rattle.collector.proofs.AloneReplies.{collected_so, in_collect}
+use Rattle.serial_laws.proofs.MadeCollects.{end_by}
+use Rattle.std.proofs.lemmas.Bool.{or_parts}
 
 -- the reply of a collect that decided something, or nothing
 as_collect : Option CollectReply → Reply
 as_collect None = Reply.Idle
 as_collect (Some reply) = reply_to_collect reply
-
-collected_so : (ended : RoundReply) (reply : CollectReply) → decided_by ended ≡ Some reply →
-    unwrap_or (in_collect ended) Reply.Idle ≡ reply_to_collect reply
-unfolding in_collect as_collect
-collected_so (round.Erased sb) reply e = ap as_collect e
-collected_so (round.Retired sb) reply e = ap as_collect e
-collected_so (round.DieFault die) reply e = ap as_collect e
-collected_so round.Left reply e = absurd (none-some reply e)
 
 not_left : (ended : RoundReply) (reply : CollectReply) → decided_by ended ≡ Some reply → not (is_left ended) ≡ true
 not_left (round.Erased sb) reply e = refl
@@ -61,13 +55,6 @@ not_left round.Left reply e = absurd (none-some reply e)
 left_undecided : in_collect round.Left ≡ None
 unfolding in_collect
 left_undecided = refl
-
--- an idle note may end a collect after a round that left its victim
-end_by : (idle no_live stay nothing : Bool) → idle ≡ true → (stay ≡ true) ⊎ (nothing ≡ true) →
-    (idle && ((no_live || stay) || nothing)) ≡ true
-end_by idle no_live stay nothing is (inl stayed) =
-    rw is (or_first (no_live || stay) nothing (or_second no_live stay stayed))
-end_by idle no_live stay nothing is (inr none) = rw is (or_second (no_live || stay) nothing none)
 
 module _ (start : Start) (contents : List (Tag × List ℕ)) (caller : CallerView) (tag : Tag) where
   abbrev ladder : List Entry → ℕ → LadderState
@@ -119,7 +106,7 @@ module _ (start : Start) (contents : List (Tag × List ℕ)) (caller : CallerVie
     no_fault = made.round.decides.fault_is
 
     no_erase : has_erase made.round.steps ≡ false
-    no_erase = (neither (has_erase made.round.steps) (has_fault made.round.steps) made.round.decides.done_is).0
+    no_erase = (or_parts (has_erase made.round.steps) (has_fault made.round.steps) made.round.decides.done_is).0
 
     undecided : first_reply (λ step. collect_decided step.entry.kind) part ≡ None
     undecided =

@@ -28,12 +28,13 @@ use Rattle.chan_calls.specs.Moving.{MakesCondemn, MakesMove}
 use Rattle.chan_calls.specs.declared.copy_reply.CopyReply.{CopyReply}
 use Rattle.chan_calls.specs.declared.copy_reply.CopyReply.TheVariants as copy
 use Rattle.chan_calls.proofs.SensedSteps.{both}
-use Rattle.serial_laws.proofs.Lists.{same_number}
 use Rattle.calls_among_others.specs.Parts.{CopiesAmongAreCopies}
 use Rattle.calls_among_others.specs.CallsAmong.{ladders}
 use Rattle.calls_among_others.specs.StepsAmong.{AreStepsAmong, HasCome}
-use Rattle.calls_among_others.proofs.AmongSteps.{among_join, came_same, none_came, or_first, or_second}
+use Rattle.calls_among_others.proofs.AmongSteps.{among_join, came_same, none_came}
 use Rattle.calls_among_others.proofs.LookSteps.{TestsEnd, ended_any, look_steps, made_step}
+use Rattle.std.proofs.lemmas.Bool.{or_left, or_right}
+use Rattle.shared_lemmas.proofs.Tests.{same_number}
 
 -- what a caller's step found came to what it had seen
 pub came : (caller : CallerView) (tag : Tag) (now : List Entry) → Comes caller tag now → HasCome tag.actor caller.seen now
@@ -145,7 +146,7 @@ module _ (ladder : List Entry → ℕ → LadderState) (tag : Tag) (at : ℕ) (p
     recovers = both (is_recovered (ladder past at)) (at == at) is (same_number at)
 
     ends_recovered : (rest : Bool) → ((is_recovered (ladder past at) && (at == at)) || rest) ≡ true
-    ends_recovered rest = or_first (is_recovered (ladder past at) && (at == at)) rest recovers
+    ends_recovered rest = or_left (is_recovered (ladder past at) && (at == at)) rest recovers
 
     move_ends : (answer : MoveAnswer) → MakesMove tag at past answer ended →
         Refreshes ladder tag at past ended (reply_of_move answer)
@@ -244,7 +245,7 @@ module _ (ladder : List Entry → ℕ → LadderState) (tag : Tag) (at : ℕ) (p
   module _ (is : is_uncorrectable (ladder past at) ≡ true) where
     ends_uncorrectable : (a : Bool) → (a || (is_uncorrectable (ladder past at) && (at == at))) ≡ true
     ends_uncorrectable a =
-        or_second a (is_uncorrectable (ladder past at) && (at == at))
+        or_right a (is_uncorrectable (ladder past at) && (at == at))
         (both (is_uncorrectable (ladder past at)) (at == at) is (same_number at))
 
     condemn_ends : (answer : CondemnAnswer) → MakesCondemn tag at past answer ended →
@@ -288,10 +289,10 @@ module _ (ladder : List Entry → ℕ → LadderState) (tag : Tag) (at : ℕ) (p
       writes = refl;
       collects = refl;
       copy =
-          or_first ((at == at) || (is_recovered (ladder past at) && false)) (is_uncorrectable (ladder past at) && false)
-          (or_first (at == at) (is_recovered (ladder past at) && false) (same_number at));
+          or_left ((at == at) || (is_recovered (ladder past at) && false)) (is_uncorrectable (ladder past at) && false)
+          (or_left (at == at) (is_recovered (ladder past at) && false) (same_number at));
     };
-    refresh = or_first (at == at) (is_recovered (ladder past at) && false) (same_number at);
+    refresh = or_left (at == at) (is_recovered (ladder past at) && false) (same_number at);
     decided = refl;
   }
 

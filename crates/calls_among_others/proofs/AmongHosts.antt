@@ -20,7 +20,6 @@ use Rattle.chan_state.specs.declared.answers.AgeAnswer.TheVariants as age
 use Rattle.chan_calls.specs.Caller.{CallerView}
 use Rattle.chan_calls.specs.Calls.{HasFailed, HasLooked, ReadsFor}
 use Rattle.chan_calls.specs.Stepping.{MakesAge}
-use Rattle.serial_laws.proofs.Lists.{same_number}
 use Rattle.serial_laws.proofs.LookLists.{read_has_one_fault}
 use Rattle.serial_laws.proofs.MadeWrites.{one_fault_in_one}
 use Rattle.calls_among_others.specs.CallsAmong.{IsCallAmong, OnOwn, ladders}
@@ -29,6 +28,7 @@ use Rattle.calls_among_others.specs.StepsAmong.{AreStepsAmong, HasCome}
 use Rattle.calls_among_others.proofs.AmongCopies.{SensesMade, came, leave_made, look_list, look_made, one_made, senses_made}
 use Rattle.calls_among_others.proofs.AmongSteps.{none_came}
 use Rattle.calls_among_others.proofs.LookSteps.{DecidesEnd, decided_first, ended_reply, left_reply, look_steps, made_step}
+use Rattle.shared_lemmas.proofs.Tests.{same_number}
 
 -- what holds of a call's own channel
 pub own_steps : (n : ℕ) (fact : Type 0) (steps : List CallStep) → fact → OnOwnChannel (n == n) fact steps

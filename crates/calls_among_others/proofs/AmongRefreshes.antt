@@ -33,7 +33,6 @@ use Rattle.chan_calls.proofs.RefreshReplies.{given_up}
 use Rattle.chan_calls.proofs.SensedLooks.{ladder_after, own_began}
 use Rattle.refresh.specs.Refreshes.{FollowsLook}
 use Rattle.refresh.proofs.FaultReplies.{refresh_fault_is}
-use Rattle.serial_laws.proofs.Lists.{same_number}
 use Rattle.serial_laws.proofs.LookLists.{refresh_has_one_fault}
 use Rattle.calls_among_others.specs.CallsAmong.{ladders}
 use Rattle.calls_among_others.specs.Parts.{IsRefreshAmong, RefreshesAmongAreRefreshes}
@@ -43,6 +42,7 @@ use Rattle.calls_among_others.proofs.AmongCopies.{MadeRefresh, came, failed_so, 
 use Rattle.calls_among_others.proofs.AmongHosts.{own_fact, own_steps}
 use Rattle.calls_among_others.proofs.AmongSteps.{came_same}
 use Rattle.calls_among_others.proofs.LookSteps.{DecidesEnd, decided_first, ended_reply, left_reply, look_steps, made_step}
+use Rattle.shared_lemmas.proofs.Tests.{same_number}
 
 -- an entry that is no sense of a look
 no_sense_for : (at : ℕ) (kind : Kind) → is_sense_of at kind ≡ false → sense_for at kind ≡ None

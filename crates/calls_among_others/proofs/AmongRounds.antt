@@ -3,7 +3,7 @@
 use Rattle.std.proofs.Common.{◌≡◌, ℕ, ◌≤◌, ◌==◌, ◌||◌, not, Bool, true, false, List, [], ◌∷◌, ◌++◌, Option, Some, None, ◌⊎◌, refl, sym, subst, ◌∙◌, ap, inl, inr, append_assoc, append-nil, arith}
 use Rattle.std.specs.Prelude.{All, Result, Ok, Err, flat_map, unwrap_or}
 use Rattle.std.specs.List.{list_all, list_any}
-use Rattle.std.proofs.lemmas.Bool.{false≢true}
+use Rattle.std.proofs.lemmas.Bool.{false≢true, or_parts}
 use Rattle.std.proofs.lemmas.List.Elements.{All-cons, All-nil}
 use Rattle.std.proofs.lemmas.List.Folds.{list_any-append}
 use Rattle.chan_calls.specs.Caller.{CallerView}
@@ -38,7 +38,6 @@ use Rattle.collector.specs.declared.replies.RoundReply.{RoundReply}
 use Rattle.collector.specs.declared.replies.RoundReply.TheVariants as round
 use Rattle.collector.proofs.AloneRounds.{no_stop, ok_is}
 use Rattle.collector.proofs.KeptVictims.{picked_is_victim}
-use Rattle.serial_laws.proofs.Lists.{neither, same_number}
 use Rattle.serial_laws.proofs.LookLists.{IsCopyMade, by_kind, copy_is_made, ends_with_stay}
 use Rattle.serial_laws.proofs.MadeRounds.{copies_and_erases, faults_join, none_in_both}
 use Rattle.serial_laws.proofs.MadeSteps.{faults_in}
@@ -49,20 +48,10 @@ use Rattle.calls_among_others.specs.StepsAmong.{AreStepsAmong, HasCome}
 use Rattle.calls_among_others.proofs.AmongCopies.{came, copied_made, copy_among, copy_ends, copy_faults, copy_is, copy_steps, fault_of, one_made}
 use Rattle.calls_among_others.proofs.AmongSteps.{among_join, came_same, came_then, late_has, late_here, lawful_among, steps_later}
 use Rattle.calls_among_others.proofs.HeldVictims.{copy_holds_victim, victim_gone}
-use Rattle.calls_among_others.proofs.LookSteps.{DecidesEnd, decided_last, ended_reply, made_step, no_pick_all, none_first, or_false}
-
--- what a round decides of a write, and of a collect
-unfoldable pub in_write : RoundReply → Option Reply
-in_write (round.Erased sb) = None
-in_write (round.Retired sb) = None
-in_write (round.DieFault die) = Some (Reply.DieFault die)
-in_write round.Left = None
-
-unfoldable pub in_collect : RoundReply → Option Reply
-in_collect (round.Erased sb) = Some (Reply.Collected sb)
-in_collect (round.Retired sb) = Some (Reply.Retired sb)
-in_collect (round.DieFault die) = Some (Reply.DieFault die)
-in_collect round.Left = None
+use Rattle.calls_among_others.proofs.LookSteps.{DecidesEnd, decided_last, ended_reply, made_step, no_pick_all, none_first}
+use Rattle.collector.proofs.AloneReplies.{in_collect, in_write, round_so}
+use Rattle.ssd_histories.proofs.SameSlots.{is_slot-same}
+use Rattle.shared_lemmas.proofs.Tests.{or_false}
 
 -- some steps decide what a round's reply says
 pub record Decides (steps : List CallStep) (reply : RoundReply) : Type 0 where
@@ -79,7 +68,7 @@ pub decides_then : (xs ys : List CallStep) (reply : RoundReply) → Decides xs r
     Decides (xs ++ ys) reply
 unfolding in_write in_collect
 decides_then xs ys reply first rest =
-    let none = neither (has_erase xs) (has_fault xs) first.done_is in
+    let none = or_parts (has_erase xs) (has_fault xs) first.done_is in
     let faults : has_fault (xs ++ ys) ≡ has_fault ys =
     list_any-append (by_kind is_fault) xs ys ∙ ap (λ (b : Bool). b || has_fault ys) none.1 in
     let erases : has_erase (xs ++ ys) ≡ has_erase ys =
@@ -168,9 +157,6 @@ no_fault_left copy.NoRoom e = refl
 no_fault_left copy.ReadOnly e = refl
 no_fault_left copy.Failed e = refl
 
-itself : (slot : Slot) → is_slot slot slot ≡ true
-itself slot = rw (same_number slot.sb, same_number slot.index) refl
-
 write_ends : DecidesEnd (λ past kind. write_decided kind)
 write_ends = record { of_look = λ past row slot serial closed. refl; of_sense = λ past at place level. refl }
 
@@ -233,7 +219,7 @@ module _ (start : Start) (contents : List (Tag × List ℕ)) (caller : CallerVie
             look = step_of_look tag look now;
             is_copy = is_copy;
             is_first =
-                subst (λ (slot : Option Slot). is_that_slot slot look.slot ≡ true) (sym named) (itself look.slot);
+                subst (λ (slot : Option Slot). is_that_slot slot look.slot ≡ true) (sym named) (is_slot-same look.slot);
           };
           ends_is = copy_ends start contents tag look now after reply made;
           decides = record {
@@ -561,18 +547,10 @@ module _ (start : Start) (contents : List (Tag × List ℕ)) (caller : CallerVie
       by_pick before has.picks.0 has.picked after has.answer reply
       (came (having_seen caller before) tag has.picks.0 has.picks.1) has.picks.3 has.follows
 
--- the reply of a collect that would end with the round
-reply_to : (reply : RoundReply) → unwrap_or (in_collect reply) Reply.Idle ≡ reply_to_round reply
-unfolding in_collect
-reply_to (round.Erased sb) = refl
-reply_to (round.Retired sb) = refl
-reply_to (round.DieFault die) = refl
-reply_to round.Left = refl
-
 left_none : (erase fault : Bool) (reply : RoundReply) → (erase || fault) ≡ not (is_left reply) → is_left reply ≡ true →
     erase ≡ false
 left_none erase fault reply done left =
-    (neither erase fault (done ∙ ap (λ (b : Bool). not b) left)).0
+    (or_parts erase fault (done ∙ ap (λ (b : Bool). not b) left)).0
 
 pub rounds_among : RoundsAmongAreRounds
 rounds_among start contents caller tag before after reply round =
@@ -583,5 +561,5 @@ rounds_among start contents caller tag before after reply round =
       is_round = made.is_round;
       fault_is = made.decides.fault_is;
       left_none = left_none (has_erase made.steps) (has_fault made.steps) reply made.decides.done_is;
-      reply_is = ap (λ (decided : Option Reply). unwrap_or decided Reply.Idle) made.decides.collects_is ∙ reply_to reply;
+      reply_is = ap (λ (decided : Option Reply). unwrap_or decided Reply.Idle) made.decides.collects_is ∙ round_so reply;
     }

@@ -11,18 +11,10 @@ use Rattle.ssd_geo.specs.Ladder.{LadderState}
 use Rattle.ssd_geo.specs.declared.base.ChannelBase.{ChannelBase}
 use Rattle.ssd_geo.specs.declared.entry.Entry.{Entry}
 use Rattle.ssd_geo.specs.declared.tag.Tag.{Tag}
-use Rattle.serial_laws.proofs.Lists.{not_true}
 use Rattle.serial_laws.proofs.MadeSteps.{none_more, one_more}
-use Rattle.serial_laws.proofs.NumberedTags.{same_parts, same_tag}
 use Rattle.calls_among_others.specs.StepsAmong.{AreStepsAmong, HasCome, PastsAreLate, StepsAmongAreAll, StepsAmongJoin, StepsTogetherAreAmong}
-
-pub or_first : (a b : Bool) → a ≡ true → (a || b) ≡ true
-or_first true b e = refl
-or_first false b e = absurd (cc)
-
-pub or_second : (a b : Bool) → b ≡ true → (a || b) ≡ true
-or_second true b e = refl
-or_second false b e = e
+use Rattle.std.proofs.lemmas.Bool.{false_from_ne_true, or_left, or_right}
+use Rattle.ssd_histories.proofs.SameTags.{same_parts, same_tag}
 
 -- an entry is of another actor
 abbrev pub IsOfOther : ℕ → Entry → Type 0
@@ -68,7 +60,7 @@ together_among tag before after (step ∷ steps) made = (
 -- the entries of others are no steps of an actor's call
 differs : (tag : Tag) (entry : Entry) → IsOfOther tag.actor entry → is_same_tag tag entry.tag ≡ false
 differs tag entry other =
-    not_true (is_same_tag tag entry.tag) (λ same. other (sym (same_parts tag entry.tag same).0))
+    false_from_ne_true (is_same_tag tag entry.tag) (λ same. other (sym (same_parts tag entry.tag same).0))
 
 others_add_none : (tag : Tag) (others before : List Entry) → All (IsOfOther tag.actor) others →
     steps_of tag (others ++ before) ≡ steps_of tag before
@@ -115,9 +107,9 @@ steps_are_all tag before after steps made = record {
 -- late pasts
 pub late_here : (actor : ℕ) (test : List Entry → Bool) (past : List Entry) → test past ≡ true →
     list_any test (late_pasts actor past) ≡ true
-late_here actor test [] holds = or_first (test []) false holds
+late_here actor test [] holds = or_left (test []) false holds
 late_here actor test (entry ∷ past) holds =
-    or_first (test (entry ∷ past))
+    or_left (test (entry ∷ past))
     (list_any test (elim (entry.tag.actor == actor) as (λ (b : Bool). List (List Entry))
     [ true ↦ [] | false ↦ late_pasts actor past ])) holds
 
@@ -126,9 +118,9 @@ late_over : (actor : ℕ) (test : List Entry → Bool) (others before : List Ent
 late_over actor test [] before all holds = holds
 late_over actor test (entry ∷ others) before all holds =
     let other : (entry.tag.actor == actor) ≡ false =
-    not_true (entry.tag.actor == actor)
+    false_from_ne_true (entry.tag.actor == actor)
     (λ same. All-head (IsOfOther actor) entry others all (eqb-true entry.tag.actor actor same)) in
-    or_second (test (entry ∷ others ++ before))
+    or_right (test (entry ∷ others ++ before))
     (list_any test (elim (entry.tag.actor == actor) as (λ (b : Bool). List (List Entry))
     [ true ↦ [] | false ↦ late_pasts actor (others ++ before) ]))
     (ap (λ (b : Bool). list_any test (elim b as (λ (b : Bool). List (List Entry))

@@ -29,7 +29,6 @@ use Rattle.collector.specs.declared.replies.RoundReply.{RoundReply}
 use Rattle.collector.specs.declared.replies.RoundReply.TheVariants as round
 use Rattle.collector.specs.declared.replies.WriteReply.{WriteReply}
 use Rattle.collector.specs.declared.replies.WriteReply.TheVariants as written
-use Rattle.serial_laws.proofs.Lists.{same_number}
 use Rattle.serial_laws.proofs.MadeRounds.{faults_join}
 use Rattle.serial_laws.proofs.MadeSteps.{faults_in}
 use Rattle.serial_laws.proofs.MadeWrites.{one_fault_in_one}
@@ -39,41 +38,28 @@ use Rattle.calls_among_others.specs.StepsAmong.{AreStepsAmong, HasCome}
 use Rattle.calls_among_others.specs.WholeCalls.{WritesAmongAreWrites}
 use Rattle.calls_among_others.proofs.AmongCopies.{came, one_made}
 use Rattle.calls_among_others.proofs.AmongHosts.{own_fact, own_steps}
-use Rattle.calls_among_others.proofs.AmongRounds.{RoundMade, in_write, round_made}
+use Rattle.calls_among_others.proofs.AmongRounds.{RoundMade, round_made}
 use Rattle.calls_among_others.proofs.AmongSteps.{among_join, came_same, came_then, steps_later}
 use Rattle.calls_among_others.proofs.LookSteps.{decided_last, made_step, no_pick_all, none_first}
+use Rattle.collector.proofs.AloneReplies.{in_write, round_faults, round_goes_on}
+use Rattle.shared_lemmas.proofs.Tests.{same_number}
 
 -- what a write's answer to its caller decides
 as_write : Option WriteReply → Option Reply
 as_write None = None
 as_write (Some reply) = Some (reply_to_write reply)
 
-goes_on_faultless : (reply : RoundReply) → reply_of_round reply ≡ None → is_round_fault reply ≡ false
+pub goes_on_faultless : (reply : RoundReply) → reply_of_round reply ≡ None → is_round_fault reply ≡ false
 goes_on_faultless (round.Erased sb) e = refl
 goes_on_faultless (round.Retired sb) e = refl
 goes_on_faultless (round.DieFault die) e = absurd (none-some (written.DieFault die) (sym e))
 goes_on_faultless round.Left e = refl
-
-goes_on_undecided : (reply : RoundReply) → reply_of_round reply ≡ None → in_write reply ≡ None
-unfolding in_write
-goes_on_undecided (round.Erased sb) e = refl
-goes_on_undecided (round.Retired sb) e = refl
-goes_on_undecided (round.DieFault die) e = absurd (none-some (written.DieFault die) (sym e))
-goes_on_undecided round.Left e = refl
 
 ends_with_fault : (ended : RoundReply) (reply : WriteReply) → reply_of_round ended ≡ Some reply → is_round_fault ended ≡ true
 ends_with_fault (round.Erased sb) reply e = absurd (none-some reply e)
 ends_with_fault (round.Retired sb) reply e = absurd (none-some reply e)
 ends_with_fault (round.DieFault die) reply e = refl
 ends_with_fault round.Left reply e = absurd (none-some reply e)
-
-ends_decided : (ended : RoundReply) (reply : WriteReply) → reply_of_round ended ≡ Some reply →
-    in_write ended ≡ Some (reply_to_write reply)
-unfolding in_write as_write
-ends_decided (round.Erased sb) reply e = absurd (none-some reply e)
-ends_decided (round.Retired sb) reply e = absurd (none-some reply e)
-ends_decided (round.DieFault die) reply e = ap as_write e
-ends_decided round.Left reply e = absurd (none-some reply e)
 
 module _ (start : Start) (contents : List (Tag × List ℕ)) (caller : CallerView) (tag : Tag) (row : ℕ) where
   abbrev ladder : List Entry → ℕ → LadderState
@@ -197,7 +183,7 @@ module _ (start : Start) (contents : List (Tag × List ℕ)) (caller : CallerVie
       part_before before between after reply room.round.steps (room_steps before between ended room)
       (inr (record { is_round = room.round.is_round; no_fault = rw no_fault refl }))
       (room.round.have_cause (needs_room start.base) room.needs) no_fault
-      (room.round.decides.writes_is ∙ goes_on_undecided ended is) rest
+      (room.round.decides.writes_is ∙ round_goes_on ended is) rest
 
   then_ends : {before between : List Entry} (after : List Entry) (reply : WriteReply) →
       WritesOften start contents caller tag row before between → WriteMade between after reply → WriteMade before after reply
@@ -217,7 +203,7 @@ module _ (start : Start) (contents : List (Tag × List ℕ)) (caller : CallerVie
         fault = room.round.decides.fault_is ∙ ends_with_fault ended reply is;
       }))
       (room.round.have_cause (needs_room start.base) room.needs) room.round.one_fault
-      (room.round.decides.writes_is ∙ ends_decided ended reply is)
+      (room.round.decides.writes_is ∙ round_faults ended reply is)
 
   write_made : (before after : List Entry) (reply : WriteReply) →
       MakesWriteFor start contents caller tag row before after (Ok reply) → WriteMade before after reply

@@ -3,11 +3,11 @@
 use Rattle.std.proofs.Common.{◌≡◌, ◌≢◌, ℕ, ◌+◌, ◌==◌, ◌&&◌, ◌||◌, cond, Bool, true, false, List, [], ◌∷◌, ◌++◌, length, Option, Some, None, ◌⊎◌, refl, sym, subst, ◌∙◌, ap, inl, inr, arith}
 use Rattle.std.specs.Prelude.{All, IsSomeAnd, option_map}
 use Rattle.std.specs.List.{list_all, list_any}
-use Rattle.std.proofs.lemmas.Bool.{and_parts, cases_eq, false≢true}
+use Rattle.std.proofs.lemmas.Bool.{and_parts, cases_eq, false≢true, false_from_ne_true, or_left, or_right}
 use Rattle.std.proofs.lemmas.List.Elements.{All-cons, All-head, All-nil, All-tail}
 use Rattle.std.proofs.lemmas.List.Folds.{list_any-append}
 use Rattle.std.proofs.lemmas.List.Sums.{sum_by-cons}
-use Rattle.std.proofs.lemmas.Option.{none-some}
+use Rattle.std.proofs.lemmas.Option.{none-some, same_Some}
 use Rattle.ssd_geo.specs.Ladder.{LadderState}
 use Rattle.ssd_geo.specs.declared.base.ChannelBase.{ChannelBase}
 use Rattle.ssd_geo.specs.declared.entry.Entry.{Entry}
@@ -28,14 +28,14 @@ use Rattle.ssd_histories.specs.SerialCalls.{entry_of}
 use Rattle.ssd_histories.specs.Start.{Start}
 use Rattle.chan_calls.specs.declared.copy_reply.CopyReply.{CopyReply}
 use Rattle.collector.proofs.KeptVictims.{victim_stays}
-use Rattle.serial_laws.proofs.Lists.{not_true, same_number}
 use Rattle.serial_laws.proofs.LookLists.{copy_ends, is_end_kind}
-use Rattle.serial_laws.proofs.NumberedTags.{same_parts, same_tag}
 use Rattle.calls_among_others.specs.CallsAmong.{ladders}
 use Rattle.calls_among_others.specs.StepsAmong.{AreStepsAmong, HasCome}
 use Rattle.calls_among_others.proofs.AmongCopies.{CopyEnds, Ends, looked}
-use Rattle.calls_among_others.proofs.AmongSteps.{IsOfOther, late_has, late_more, lawful_among, lawful_came, or_first, or_second}
+use Rattle.calls_among_others.proofs.AmongSteps.{IsOfOther, late_has, late_more, lawful_among, lawful_came}
 use Rattle.calls_among_others.proofs.LookSteps.{made_step}
+use Rattle.shared_lemmas.proofs.Tests.{same_number}
+use Rattle.ssd_histories.proofs.SameTags.{same_parts, same_tag}
 
 and_false : (a b : Bool) → b ≡ false → (a && b) ≡ false
 and_false true b e = e
@@ -60,9 +60,6 @@ senses_leave_none at [] are = refl
 senses_leave_none at (step ∷ senses) are =
     let parts = and_parts (is_sense_of at step.entry.kind) (list_all (λ step. is_sense_of at step.entry.kind) senses) are in
     rw (sense_leaves_none at step.entry.kind parts.0) (senses_leave_none at senses parts.1)
-
-some_is : (a b : ℕ) → ◌≡◌ {A = Option ℕ} (Some a) (Some b) → a ≡ b
-some_is a b e = grind arith
 
 -- a superblock of a first live slot is the slot's
 slot_in : (sb : ℕ) (least : Option ℕ) (slot : Slot) → option_map (slot_at sb) least ≡ Some slot → slot.sb ≡ sb
@@ -131,7 +128,7 @@ module _ (ladder : List Entry → ℕ → LadderState) (base : ChannelBase) (sb 
                   (entry ∷ others ++ before) one
                   (ended_by (others ++ before) entry.tag entry.kind lawful.1.in_range lawful.1.meets
                   (is ∙ ap (λ (n : ℕ). Some n) same) gone)
-              | inr differs ↦ late_one (rest (λ e. differs (some_is named sb (sym is ∙ e))))
+              | inr differs ↦ late_one (rest (λ e. differs (same_Some named sb (sym is ∙ e))))
             ]
 
     pub victim_gone : (before after : List Entry) → HasCome actor before after → IsVictim before →
@@ -178,7 +175,7 @@ module _ (ladder : List Entry → ℕ → LadderState) (base : ChannelBase) (sb 
         not_held : (b : Bool) → is_same_tag other pin.0 ≡ b →
             IsSomeAnd (elim b as (λ (b : Bool). Option Look) [ true ↦ Some pin.1 | false ↦ None ]) P → is_held pin ≡ false
         not_held true same found =
-            not_true (is_held pin) (λ e.
+            false_from_ne_true (is_held pin) (λ e.
             let own = same_parts tag pin.0 (and_parts (is_same_tag tag pin.0) (stands_in sb pin) e).0 in
             apart ((same_parts other pin.0 same).0 ∙ sym own.0))
         not_held false same found = absurd found
@@ -186,8 +183,8 @@ module _ (ladder : List Entry → ℕ → LadderState) (base : ChannelBase) (sb 
         still : (b : Bool) → is_held pin ≡ b →
             (list_any is_held looks ≡ true → list_any is_held (without_look looks named) ≡ true) →
             (b || list_any is_held looks) ≡ true → (is_held pin || list_any is_held (without_look looks named)) ≡ true
-        still true is rest all = or_first (is_held pin) (list_any is_held (without_look looks named)) is
-        still false is rest all = or_second (is_held pin) (list_any is_held (without_look looks named)) (rest all)
+        still true is rest all = or_left (is_held pin) (list_any is_held (without_look looks named)) is
+        still false is rest all = or_right (is_held pin) (list_any is_held (without_look looks named)) (rest all)
 
         by_test : (b : Bool) → IsSomeAnd (look_by other (cond b (Some pin) (look_at looks named))) P →
             (IsSomeAnd (look_by other (look_at looks named)) P → list_any is_held looks ≡ true →
@@ -219,7 +216,7 @@ module _ (ladder : List Entry → ℕ → LadderState) (base : ChannelBase) (sb 
           },
         ) ∷ [] in
         list_any-append is_held (open_looks past) new
-        ∙ or_first (list_any is_held (open_looks past)) (list_any is_held new) held
+        ∙ or_left (list_any is_held (open_looks past)) (list_any is_held new) held
     held_step past other (Kind.Look row Row.Empty closed) meets may held = held
     held_step past other (Kind.Look row Row.Lost closed) meets may held = held
     held_step past other kind meets may held = held
@@ -228,7 +225,7 @@ module _ (ladder : List Entry → ℕ → LadderState) (base : ChannelBase) (sb 
         IsHeld past → IsVictim past → ⊥
     not_erased past named victim none held is =
         pinned (open_looks past) held
-        (subst (λ (n : ℕ). looks_in (open_looks past) n ≡ 0) (some_is named sb (sym victim ∙ is)) none)
+        (subst (λ (n : ℕ). looks_in (open_looks past) n ≡ 0) (same_Some named sb (sym victim ∙ is)) none)
 
     victim_step : (past : List Entry) (other : Tag) (kind : Kind) → is_in_range base.shape kind ≡ true →
         IsLawfulKind (ladder past) base past other kind → IsHeld past → IsVictim past →
@@ -298,7 +295,7 @@ module _ (ladder : List Entry → ℕ → LadderState) (base : ChannelBase) (sb 
           let own : (slot.sb == sb) ≡ true = ap (λ (n : ℕ). n == sb) in_sb ∙ same_number sb in
           let is : list_any is_held new ≡ true = rw (same_tag tag, own) refl in
           list_any-append is_held (open_looks past) new
-          ∙ or_second (list_any is_held (open_looks past)) (list_any is_held new) is;
+          ∙ or_right (list_any is_held (open_looks past)) (list_any is_held new) is;
     }
 
 pub copy_holds_victim : (start : Start) (contents : List (Tag × List ℕ)) (tag : Tag) (sb : ℕ) (look : Look)

@@ -15,14 +15,11 @@ use Rattle.ssd_geo.specs.declared.place.Place.{Place}
 use Rattle.ssd_geo.specs.declared.row.Row.{Row}
 use Rattle.ssd_geo.specs.declared.slot.Slot.{Slot}
 use Rattle.ssd_geo.specs.declared.tag.Tag.{Tag}
+use Rattle.shared_lemmas.proofs.Tests.{or_false}
 
 -- a step of a call
 abbrev pub made_step : Tag → Kind → List Entry → CallStep
 made_step tag kind past = record { past = past; entry = entry_of tag kind }
-
-pub or_false : (a : Bool) → (a || false) ≡ a
-or_false true = refl
-or_false false = refl
 
 -- a reply that a step decides, or else those after it
 abbrev pub decided_first : {R : Type 0} → Option R → Option R → Option R

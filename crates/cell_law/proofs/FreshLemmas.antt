@@ -16,7 +16,7 @@ use Rattle.ssd_geo.specs.Cells.{IsCellLaw, aim_of_bit, fresh_level}
 use Rattle.ssd_geo.specs.Noise.{noise_of_bits, noise_word, state_after}
 use Rattle.ssd_geo.specs.declared.cell_law.CellLaw.{CellLaw}
 use Rattle.cell_law.specs.Quad.{quad_level, quad_levels}
-use Rattle.cell_law.proofs.NoiseLanes.{eight_equal}
+use Rattle.shared_lemmas.proofs.Lists.{eight_equal}
 
 -- the level of a cell fits its type
 pub level_fits : (law : CellLaw) (bit : Bool) (drawn : ℕ) → IsCellLaw law → SFits w16 (aim_of_bit law bit +ℤ noise_of_bits law.spread drawn)

@@ -6,6 +6,7 @@ use Rattle.std.proofs.lemmas.Nat.{mod-mul-add}
 use Rattle.std.proofs.Math.Nat.{div-add-mod, mod-eq_of_lt, mod-lt, mul-le-mul_left, mul-le-mul_right}
 use Rattle.std.specs.Prelude.{replicate}
 use Rattle.std.specs.Simd.Lanes.{Each1, sel_l, top, zip2}
+use Rattle.shared_lemmas.proofs.Lists.{eight_equal}
 
 -- the quotient that the product gives: the right one, or one less
 pub record IsQuotient (u d q : ℕ) : Type 0 where
@@ -28,11 +29,6 @@ quotient u d q small some is =
     let most : u ≤ 65535 = omega arith in
     let g : u * d ≤ 65535 * d = mul-le-mul_right d most in
     record { low = omega arith; high = omega arith }
-
--- eight items that are equal one by one
-pub eight_equal : {X : Type 0} {a b c d e f g h a' b' c' d' e' f' g' h' : X} → a ≡ a' → b ≡ b' → c ≡ c' → d ≡ d' → e ≡ e' → f ≡ f' → g ≡ g' → h ≡ h' →
-    a ∷ b ∷ c ∷ d ∷ e ∷ f ∷ g ∷ h ∷ [] ≡ a' ∷ b' ∷ c' ∷ d' ∷ e' ∷ f' ∷ g' ∷ h' ∷ []
-eight_equal p q r s t u v w = λ i. p i ∷ q i ∷ r i ∷ s i ∷ t i ∷ u i ∷ v i ∷ w i ∷ []
 
 -- what the steps on one lane leave
 abbrev quotient_lane : ℕ → ℕ → ℕ

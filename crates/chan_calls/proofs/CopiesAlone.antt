@@ -28,7 +28,8 @@ use Rattle.chan_calls.specs.Moving.{MakesCondemn, MakesMove}
 use Rattle.chan_calls.specs.declared.copy_reply.CopyReply.{CopyReply}
 use Rattle.chan_calls.proofs.AnsweredLooks.{or_left, or_right}
 use Rattle.chan_calls.proofs.RefreshReplies.{given_up, last_reply, next_reply}
-use Rattle.chan_calls.proofs.SensedSteps.{any_after, are_after, are_sense_steps, both, first_after, is_seen, or_false, same, sense_steps, senses_from, step_with}
+use Rattle.chan_calls.proofs.SensedSteps.{any_after, are_after, are_sense_steps, both, first_after, is_seen, sense_steps, senses_from, step_with}
+use Rattle.shared_lemmas.proofs.Tests.{or_false, same_number}
 
 -- What stands between the senses of a copy and its leave: an entry upon a past, which ends the copy
 -- and its round as the reply says.
@@ -71,7 +72,7 @@ module _ (ladder : List Entry → ℕ → LadderState) (tag : Tag) (at : ℕ) (p
 
   module _ (is : IsTrue (is_recovered (ladder past at))) where
     recovers : IsTrue (is_recovered (ladder past at) && (at == at))
-    recovers = both (is_recovered (ladder past at)) (at == at) is (same at)
+    recovers = both (is_recovered (ladder past at)) (at == at) is (same_number at)
 
     ends_recovered : (rest : Bool) → IsTrue ((is_recovered (ladder past at) && (at == at)) || rest)
     ends_recovered rest = or_left (is_recovered (ladder past at) && (at == at)) rest recovers
@@ -103,7 +104,7 @@ module _ (ladder : List Entry → ℕ → LadderState) (tag : Tag) (at : ℕ) (p
         IsTrue (a || (is_uncorrectable (ladder past at) && (at == at)))
     ends_uncorrectable a =
         or_right a (is_uncorrectable (ladder past at) && (at == at))
-        (both (is_uncorrectable (ladder past at)) (at == at) is (same at))
+        (both (is_uncorrectable (ladder past at)) (at == at) is (same_number at))
 
     of_condemn : (answer : CondemnAnswer) → MakesCondemn tag at past answer ended →
         reply ≡ reply_of_condemn answer → Ends ladder tag at past ended reply
@@ -129,10 +130,10 @@ module _ (ladder : List Entry → ℕ → LadderState) (tag : Tag) (at : ℕ) (p
   of_fault place level ended_is reply_is =
       by_kind (Kind.FaultSense at place level) (CopyReply.DieFault place.die) ended_is reply_is refl
       refl
-      (or_left (at == at) (is_recovered (ladder past at) && false) (same at))
+      (or_left (at == at) (is_recovered (ladder past at) && false) (same_number at))
       (or_left ((at == at) || (is_recovered (ladder past at) && false))
       (is_uncorrectable (ladder past at) && false)
-      (or_left (at == at) (is_recovered (ladder past at) && false) (same at))) refl
+      (or_left (at == at) (is_recovered (ladder past at) && false) (same_number at))) refl
 
 module _ (start : Start) (contents : List (Tag × List ℕ)) (caller : CallerView) (tag : Tag)
     (look : Look) (before : List Entry) (alone : caller.number ≡ None)
@@ -205,7 +206,7 @@ module _ (start : Start) (contents : List (Tag × List ℕ)) (caller : CallerVie
           are_steps = refl;
           finds_page = refl;
           are_senses = are_sense_steps tag at senses.senses (entry_of tag looked ∷ before);
-          is_left = same at;
+          is_left = same_number at;
         };
         ends = ends.copy;
       };
@@ -248,9 +249,9 @@ module _ (start : Start) (contents : List (Tag × List ℕ)) (caller : CallerVie
           are_steps = refl;
           finds_page = refl;
           are_senses = are_sense_steps tag at senses.senses (entry_of tag looked ∷ before);
-          is_left = same at;
+          is_left = same_number at;
         };
-        of_row = same look.row;
+        of_row = same_number look.row;
         ends = refresh;
       });
       reply_is =
@@ -296,9 +297,9 @@ module _ (start : Start) (contents : List (Tag × List ℕ)) (caller : CallerVie
             are_steps = refl;
             finds_page = refl;
             are_senses = are_sense_steps tag at senses.senses (entry_of tag looked ∷ before);
-            is_left = same at;
+            is_left = same_number at;
           };
-          of_row = same look.row;
+          of_row = same_number look.row;
           ends = is;
         });
         reply_is =

@@ -21,9 +21,7 @@ use Rattle.chan_calls.specs.Sensing.{Leaves}
 use Rattle.chan_calls.specs.Stepping.{Standing}
 use Rattle.chan_calls.proofs.AddedKinds.{comes_by}
 use Rattle.chan_calls.proofs.AnsweredLooks.{failed_may_leave, or_left, or_right}
-
-same : (n : ℕ) → (n == n) ≡ true
-same n = grind (arith, nat_tests)
+use Rattle.shared_lemmas.proofs.Tests.{same_number as same}
 
 module _ (matrix : BaseMatrix) (limit : ℕ) (first : LadderView) (caller after : CallerView)
     (stands climbed : Standing) (tag : Tag) (look : Look) (die : ℕ)

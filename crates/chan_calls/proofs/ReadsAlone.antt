@@ -17,14 +17,9 @@ use Rattle.ssd_geo.specs.declared.row.Row.{Row}
 use Rattle.ssd_geo.specs.declared.tag.Tag.{Tag}
 use Rattle.chan_calls.specs.Caller.{CallerView}
 use Rattle.chan_calls.specs.Calls.{HasFoundNone, HasLooked, HasReadFailed, HasReadPage, IsReadBy, ReadsAloneAreReads}
-use Rattle.chan_calls.proofs.SensedSteps.{are_after, are_sense_steps, first_after, is_seen, same, sense_steps, senses_from, step_with}
-
--- a ladder that gives a reply has its answer
-replies_answered : (bytes : ℕ) (state : LadderState) (reply : Reply) →
-    reply_of_ladder bytes state ≡ Some reply → IsTrue (has_answer state)
-replies_answered bytes (asks place level) reply is = absurd (cc)
-replies_answered bytes (recovered rung word) reply is = refl
-replies_answered bytes uncorrectable reply is = refl
+use Rattle.chan_calls.proofs.SensedSteps.{are_after, are_sense_steps, first_after, is_seen, sense_steps, senses_from, step_with}
+use Rattle.ssd_histories.proofs.SettledReplies.{replies_answered}
+use Rattle.shared_lemmas.proofs.Tests.{same_number}
 
 -- the reply of a list of one step
 last_reply : (decided : Option Reply) (reply : Reply) → decided ≡ Some reply →
@@ -46,13 +41,13 @@ module _ (start : Start) (contents : List (Tag × List ℕ)) (caller : CallerVie
   by_found Row.Empty before new reply reply_is new_is = record {
     steps = step_with tag (Kind.Look row Row.Empty false) before ∷ [];
     are_steps = (refl, refl, sym new_is);
-    is_read = inl (same row);
+    is_read = inl (same_number row);
     reply_is = reply_is;
   }
   by_found Row.Lost before new reply reply_is new_is = record {
     steps = step_with tag (Kind.Look row Row.Lost false) before ∷ [];
     are_steps = (refl, refl, sym new_is);
-    is_read = inl (same row);
+    is_read = inl (same_number row);
     reply_is = reply_is;
   }
   by_found (Row.Page slot serial) before new reply reply_is new_is = absurd (cc)
@@ -116,9 +111,9 @@ module _ (start : Start) (contents : List (Tag × List ℕ)) (caller : CallerVie
           finds_page = refl;
           are_senses = are_sense_steps tag (length before) look.senses.senses
               (entry_of tag looked ∷ before);
-          is_left = same (length before);
+          is_left = same_number (length before);
         };
-        of_row = same row;
+        of_row = same_number row;
         ends = replies_answered start.base.shape.bytes (ladder at_leave (length before)) reply
             reply_is;
       });
@@ -168,10 +163,10 @@ module _ (start : Start) (contents : List (Tag × List ℕ)) (caller : CallerVie
           finds_page = refl;
           are_senses = are_sense_steps tag (length before) look.senses.senses
               (entry_of tag looked ∷ before);
-          is_left = same (length before);
+          is_left = same_number (length before);
         };
-        of_row = same row;
-        ends = same (length before);
+        of_row = same_number row;
+        ends = same_number (length before);
       });
       reply_is =
           first_after Reply

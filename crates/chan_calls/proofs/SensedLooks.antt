@@ -20,12 +20,7 @@ use Rattle.ssd_geo.specs.declared.place.Place.{Place}
 use Rattle.ssd_geo.specs.declared.tag.Tag.{Tag}
 use Rattle.chan_calls.specs.Caller.{LookStays, own_look}
 use Rattle.chan_tables.proofs.EarlierLooks.{look_found}
-
-same : (n : ℕ) → (n == n) ≡ true
-same n = grind (arith, nat_tests)
-
-other : (a b : ℕ) → b < a → (a == b) ≡ false
-other a b h = grind (arith, nat_tests)
+use Rattle.shared_lemmas.proofs.Tests.{is_other_above, same_number}
 
 -- a look began before the end of its past
 pub look_began : (past : List Entry) (at : ℕ) (look : Look) → look_of past at ≡ Some look →
@@ -57,7 +52,7 @@ pub look_after : (past : List Entry) (tag : Tag) (kind : Kind) (at : ℕ) → at
     look_of (entry_of tag kind ∷ past) at ≡ look_of past at
 look_after past tag kind at began =
     ap (λ (b : Bool). elim b [ true ↦ look_made at kind | false ↦ look_of past at ])
-    (other (length past) at began)
+    (is_other_above (length past) at began)
 
 -- so a ladder stays where it is after an entry that is no sense of its look
 pub ladder_after : (coding : Coding) (start : Start) (contents : List (Tag × List ℕ))
@@ -93,7 +88,7 @@ pub had_after_sense : (past : List Entry) (tag : Tag) (at : ℕ) (place : Place)
 had_after_sense past tag at place level =
     sum_by-cons (λ (e : Entry). cond (is_sense_of at e.kind) 1 0)
     (entry_of tag (Kind.Sense at place level)) past
-    ∙ ap (λ (b : Bool). cond b 1 0 + senses_had past at) (same at)
+    ∙ ap (λ (b : Bool). cond b 1 0 + senses_had past at) (same_number at)
     ∙ one_more (senses_had past at)
   where
     one_more : (n : ℕ) → 1 + n ≡ suc n
@@ -113,7 +108,7 @@ senses_after_sense coding start contents past tag at place level =
       | Some asked ↦ before ++ sensed asked.1 (levels_in start.base
           (page_of coding start contents past asked.0)) ∷ []
       | None ↦ before
-    ]) (same at)
+    ]) (same_number at)
 
 -- a look for which no sense was made has none
 none_step : (coding : Coding) (start : Start) (contents : List (Tag × List ℕ)) (past : List Entry)

@@ -14,17 +14,11 @@ use Rattle.ssd_geo.specs.declared.place.Place.{Place}
 use Rattle.ssd_geo.specs.declared.tag.Tag.{Tag}
 use Rattle.chan_calls.specs.Caller.{AddsKinds, CallerView, Comes}
 use Rattle.chan_calls.specs.Calls.{sense_kinds}
-
-pub same : (n : ℕ) → (n == n) ≡ true
-same n = grind (arith, nat_tests)
+use Rattle.shared_lemmas.proofs.Tests.{same_number}
 
 pub both : (a b : Bool) → IsTrue a → IsTrue b → IsTrue (a && b)
 both true b h k = k
 both false b h k = absurd (cc)
-
-pub or_false : (a : Bool) → (a || false) ≡ a
-or_false true = refl
-or_false false = refl
 
 -- a step of a call
 abbrev pub step_with : Tag → Kind → List Entry → CallStep
@@ -55,7 +49,7 @@ are_sense_steps tag at [] past = refl
 are_sense_steps tag at (sensed ∷ senses) past =
     let next : List Entry = entry_of tag (Kind.Sense at sensed.0 sensed.1) ∷ past in
     both (at == at)
-    (list_all (λ step. is_sense_of at step.entry.kind) (sense_steps tag at senses next)) (same at)
+    (list_all (λ step. is_sense_of at step.entry.kind) (sense_steps tag at senses next)) (same_number at)
     (are_sense_steps tag at senses next)
 
 -- where no sense decides, the reply is that of the steps after them

@@ -9,7 +9,7 @@ use crate::programming::{is_open_after, program_dies};
 use crate::{EraseEnd, ProgramEnd};
 use die_parity::StripeSum;
 use onfi_cmd::{Cycle, Die, DieFailed};
-use ssd_geo::{Memory, Place, Shape, Slot};
+use ssd_geo::{Items, Memory, Place, Shape, Slot};
 use std::alloc::Global;
 use std::marker::Model;
 
@@ -122,12 +122,14 @@ impl<D: Die> Dies<D> {
         age_block(aged, sb, amount)
     }
 
-    /// Gives the dies back.
-    pub fn into_dies(self) -> Vec<D>
-        ensures dies { map D.state result.items ≡ self.dies }
-        ensures count { length self.dies ≡ self.shape.dies }
+    /// Gives the dies and the running sum back.
+    pub fn into_parts(self) -> (Vec<D>, Items<u8>)
+        ensures dies { map D.state result.0.items ≡ self.dies }
+        ensures mounted { AreMounted self.shape self.dies }
+        ensures sum { result.1 ≡ self.sum }
+        ensures sum_bytes { length self.sum ≡ word_bytes_in self.shape }
     {
-        let Dies { dies, .. } = self;
-        dies
+        let Dies { dies, sum, .. } = self;
+        (dies, Items::new(sum.into_bytes()))
     }
 }

@@ -2,7 +2,7 @@
 use Rattle.std.proofs.Common.{◌≡◌, ◌≢◌, ℕ, ◌<◌, ◌==◌, ◌&&◌, Bool, true, false, List, [], ◌∷◌, length, map, ℤ, refl, ap, sym}
 use Rattle.std.proofs.Common.{◌∙◌, subst, Option, Some, None, arith, IsTrue, inl, inr}
 use Rattle.std.specs.Prelude.{option_map, slice_get}
-use Rattle.std.proofs.lemmas.Bool.{cases_eq}
+use Rattle.std.proofs.lemmas.Bool.{cases_eq, eqb-false, eqb-true}
 use Rattle.std.proofs.lemmas.Bool.Decides.{nat_tests}
 use Rattle.ssd_geo.specs.BlockCells.{BlockCells, cells_at}
 use Rattle.ssd_geo.specs.Cells.{aged_level}
@@ -27,12 +27,6 @@ use Rattle.chan_fits.proofs.DueAfter.{due_aged}
 use Rattle.chan_fits.proofs.ProgramPages.{changed_levels}
 use Rattle.chan_fits.proofs.QuietFits.{StaysCounted, fits_counted, page_stays, same_counted}
 use Rattle.chan_fits.proofs.ToldBlocks.{aged_elsewhere, aged_here}
-
-same_number : (a b : ℕ) → (a == b) ≡ true → a ≡ b
-same_number a b e = grind (arith, nat_tests)
-
-other_number : (a b : ℕ) → (a == b) ≡ false → a ≢ b
-other_number a b e f = grind (arith, nat_tests)
 
 -- the levels of a page that was aged
 aged_stored : (base : ChannelBase) (amount : ℕ) (page : Option StoredPage)
@@ -72,7 +66,7 @@ age_pages start contents past die sb amount sum old new fit low within count cha
 
     by_block : (b : Bool) → (place.sb == sb) ≡ b → place.die ≡ die → told_page new place ≡ changed (place.sb == sb)
     by_block true e here =
-        let same : place.sb ≡ sb = same_number place.sb sb e in
+        let same : place.sb ≡ sb = eqb-true place.sb sb e in
         ap {B = Option (List ℤ)} (λ (n : ℕ). in_die (blocks_told new n)) here ∙ ap {B = Option (List ℤ)} in_die now
         ∙ ap {B = Option (List ℤ)} (λ (n : ℕ). slice_get
         (cells_at (with_aged start.base.law.erased (blocks_told old die) sb amount) n).pages place.page) same
@@ -87,17 +81,17 @@ age_pages start contents past die sb amount sum old new fit low within count cha
     by_block false e here =
         ap {B = Option (List ℤ)} (λ (n : ℕ). in_die (blocks_told new n)) here ∙ ap {B = Option (List ℤ)} in_die now
         ∙ ap {B = Option (List ℤ)} (λ (c : BlockCells). slice_get c.pages place.page)
-        (aged_elsewhere start.base.law.erased (blocks_told old die) sb amount place.sb (other_number place.sb sb e))
+        (aged_elsewhere start.base.law.erased (blocks_told old die) sb amount place.sb (eqb-false place.sb sb e))
         ∙ ap {B = Option (List ℤ)} (λ (n : ℕ). in_die (blocks_told old n)) (sym here)
         ∙ fit.pages_are place range
         ∙ sym (ap {B = Option (List ℤ)} changed e)
 
     by_die : (b : Bool) → (place.die == die) ≡ b → told_page new place ≡ changed (place.die == die && place.sb == sb)
     by_die true e =
-        by_block (place.sb == sb) refl (same_number place.die die e)
+        by_block (place.sb == sb) refl (eqb-true place.die die e)
         ∙ sym (ap {B = Option (List ℤ)} (λ (b : Bool). changed (b && place.sb == sb)) e)
     by_die false e =
-        page_stays old new place (told_same old new place.die (changes.others place.die (other_number place.die die e)))
+        page_stays old new place (told_same old new place.die (changes.others place.die (eqb-false place.die die e)))
         ∙ fit.pages_are place range
         ∙ sym (ap {B = Option (List ℤ)} (λ (b : Bool). changed (b && place.sb == sb)) e)
 

@@ -3,7 +3,7 @@
 use Rattle.std.proofs.Common.{◌≡◌, ◌≢◌, ℕ, ◌+◌, ◌<◌, ◌≤◌, ◌==◌, ◌&&◌, Bool, true, false, List, [], length, map, refl, ap, sym}
 use Rattle.std.proofs.Common.{◌∙◌, subst, Option, Some, None, arith, inl, inr, IsTrue, ℤ, length-set}
 use Rattle.std.specs.Prelude.{IsFalse, if◌then◌else◌}
-use Rattle.std.proofs.lemmas.Bool.{cases_eq}
+use Rattle.std.proofs.lemmas.Bool.{cases_eq, eq-eqb}
 use Rattle.std.proofs.lemmas.Bool.Decides.{nat_tests}
 use Rattle.ssd_geo.specs.BlockCells.{BlockCells, cells_at}
 use Rattle.ssd_geo.specs.Cells.{aged_level}
@@ -27,9 +27,10 @@ use Rattle.chan_dies.specs.OneDie.{AgesBlock, OthersStay, aged_by}
 use Rattle.chan_dies.specs.Programming.{IsProgrammed, PutsAt, page_of_slot, parity_of_slot}
 use Rattle.chan_fits.specs.DiesFit.{AreDue, told_erases}
 use Rattle.chan_fits.proofs.BlockChanges.{apart, erased_below, erased_blocks, programmed_blocks, told_now, told_put, told_same}
-use Rattle.chan_fits.proofs.DueDies.{due_but_one, next_good, next_index, next_used, victim_is_good}
+use Rattle.chan_fits.proofs.DueDies.{due_but_one, next_good, victim_is_good}
 use Rattle.chan_fits.proofs.PlacesInRange.{has_places}
 use Rattle.chan_fits.proofs.ToldBlocks.{as_many_aged, erased_as_often, erased_here, erases_stay, one_page_more}
+use Rattle.ssd_histories.proofs.NextSlots.{next_index, next_used}
 
 -- ---- a program
 
@@ -61,9 +62,6 @@ put_erases place word old new puts lt =
 abbrev one_if : Bool → ℕ
 one_if b = if b then 1 else 0
 
-test_eq : (a b : ℕ) → a ≡ b → (a == b) ≡ true
-test_eq a b e = grind (arith, nat_tests)
-
 test_other : (a b : ℕ) → a ≢ b → (a == b) ≡ false
 test_other a b e = grind (arith, nat_tests)
 
@@ -82,7 +80,7 @@ pages_more shape slot word sum old new range is die lt = elim (cases_eq die slot
   | inl here ↦
       let differ : (die == parity) ≡ false = test_other die parity (λ e. dies_differ shape slot range (sym here ∙ e)) in
       record {
-        pages = counts (die == slot_die) last (die == parity) (test_eq die slot_die here)
+        pages = counts (die == slot_die) last (die == parity) (eq-eqb die slot_die here)
             (no_parity last (die == parity) differ)
             (subst (λ (n : ℕ). programmed_in (blocks_told new n) slot.sb ≡ programmed_in (blocks_told old n) slot.sb + 1)
             (sym here)
@@ -139,7 +137,7 @@ pages_more shape slot word sum old new range is die lt = elim (cases_eq die slot
         let puts : PutsAt (parity_of_slot shape slot) sum old new = is.parity_page e in
         let low : slot.sb < length (blocks_told old parity) = subst (λ (n : ℕ). slot.sb < length (blocks_told old n)) here lt in
         let none : one_if (die == slot_die) ≡ 0 = ap {B = ℕ} one_if (test_other die slot_die other) in
-        let one : one_if (last && die == parity) ≡ 1 = (λ i. one_if (e i && test_eq die parity here i)) in
+        let one : one_if (last && die == parity) ≡ 1 = (λ i. one_if (e i && eq-eqb die parity here i)) in
         let more : programmed_in (blocks_told new die) slot.sb ≡ programmed_in (blocks_told old die) slot.sb + 1 =
         subst (λ (n : ℕ). programmed_in (blocks_told new n) slot.sb ≡ programmed_in (blocks_told old n) slot.sb + 1) (sym here)
         (put_more (parity_of_slot shape slot) sum old new puts low) in

@@ -31,6 +31,7 @@ use Rattle.chan_dies.specs.Programming.{HasNextPages}
 use Rattle.chan_fits.specs.DiesFit.{AreDue, told_erases}
 use Rattle.chan_fits.proofs.BlockChanges.{KeepsOtherBlocks}
 use Rattle.chan_fits.proofs.PlacesInRange.{HasPlaces, has_places, place_in_range}
+use Rattle.ssd_histories.proofs.NextSlots.{next_index}
 
 -- the blocks that the dies tell stay
 pub due_stays : (shape : Shape) (blocks : List BlockBase) (old new : List DieState)
@@ -103,23 +104,6 @@ due_retired shape blocks old new sb count keeps due =
     (λ good. absurd (grind (arith, good))) due
 
 -- ---- the next slot
-
-slot_is_after : (blocks : List BlockBase) (o : Option ℕ) (slot : Slot) → slot_in blocks o ≡ Some slot
-    → slot.index ≡ (block_at blocks slot.sb).used
-slot_is_after blocks None slot e = cc
-slot_is_after blocks (Some sb) slot e =
-    let same : slot_after_used blocks sb ≡ slot = ap {B = Slot} (λ (o : Option Slot). unwrap_or o slot) e in
-    subst (λ (s : Slot). s.index ≡ (block_at blocks s.sb).used) same refl
-
--- the next slot is the first one of its superblock that isn't used
-pub next_index : (blocks : List BlockBase) (slot : Slot) → next_slot_of blocks ≡ Some slot
-    → slot.index ≡ (block_at blocks slot.sb).used
-next_index blocks slot next = slot_is_after blocks (next_superblock blocks) slot next
-
--- the superblocks after the next slot was used
-pub next_used : (slots : ℕ) (blocks : List BlockBase) (slot : Slot) → next_slot_of blocks ≡ Some slot
-    → with_next_used slots blocks ≡ set blocks slot.sb (with_slot_used slots (block_at blocks slot.sb))
-next_used slots blocks slot next = ap (used_in slots blocks) (slot_block blocks (next_superblock blocks) slot next)
 
 pub frontier_good : (state : SbState) → is_frontier state ≡ true → is_bad state ≡ false
 frontier_good SbState.Frontier e = refl

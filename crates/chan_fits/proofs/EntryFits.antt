@@ -16,7 +16,6 @@ use Rattle.ssd_histories.specs.PastBlocks.{blocks_of}
 use Rattle.ssd_histories.specs.PastPages.{senses_of, word_programmed}
 use Rattle.ssd_histories.specs.Standing.{IsStart}
 use Rattle.ssd_histories.specs.Start.{Start}
-use Rattle.ssd_histories.proofs.BlockSteps.{below}
 use Rattle.ssd_histories.proofs.UsedSlots.{made}
 use Rattle.onfi_cmd.specs.DieState.{DieState}
 use Rattle.chan_dies.specs.DiesState.{die_at}
@@ -34,6 +33,7 @@ use Rattle.chan_fits.proofs.FailedFits.{refused_tells}
 use Rattle.chan_fits.proofs.ProgramFits.{move_fits, write_fits}
 use Rattle.chan_fits.proofs.QuietFits.{IsQuiet, fault_age_fits, fault_sense_fits, one_faults, one_keeps, sense_fits, told_fits}
 use Rattle.chan_fits.proofs.StartFits.{start_due, start_fits}
+use Rattle.std.proofs.lemmas.Bool.{and_parts, ltb-true}
 
 -- the same dies with the same sum under another name
 renamed : (start : Start) (contents : List (Tag × List ℕ)) (past : List Entry) (dies : List DieState) (sum after : List ℕ)
@@ -50,11 +50,6 @@ unchanged start contents past tag kind old new sum after quiet due stays fit =
     renamed start contents (made tag kind ∷ past) new sum after stays.sum_is
     (subst (λ (dies : List DieState). DiesFit start contents (made tag kind ∷ past) dies sum) (sym stays.dies)
     (told_fits start contents past tag kind old sum quiet due fit))
-
--- two tests that hold
-both_hold : (a b : Bool) → (a && b) ≡ true → (a ≡ true) × (b ≡ true)
-both_hold true b e = (refl, e)
-both_hold false b e = absurd (grind (arith, e))
 
 fits_by_kind : (ladder : List Entry → ℕ → LadderState) (start : Start) (contents : List (Tag × List ℕ)) (past : List Entry)
     (tag : Tag) (kind : Kind)
@@ -133,10 +128,10 @@ fits_by_kind ladder start contents past tag (Kind.BadErase sb die true) word old
     (fault_erase_fits ladder start contents past tag sb die sum old new lawful due change.dies fit)
 fits_by_kind ladder start contents past tag (Kind.Age die sb amount) word old new sum after is_start lawful is change due fit =
     let there : (nat_lt die start.base.shape.dies ≡ true) × (nat_lt sb start.base.shape.superblocks ≡ true) =
-    both_hold (nat_lt die start.base.shape.dies) (nat_lt sb start.base.shape.superblocks) lawful.1.in_range in
+    and_parts (nat_lt die start.base.shape.dies) (nat_lt sb start.base.shape.superblocks) lawful.1.in_range in
     renamed start contents (made tag (Kind.Age die sb amount) ∷ past) new sum after change.sum_is
-    (age_fits start contents past tag die sb amount sum old new (below die start.base.shape.dies there.0)
-    (below sb start.base.shape.superblocks there.1) due change.dies fit)
+    (age_fits start contents past tag die sb amount sum old new (ltb-true die start.base.shape.dies there.0)
+    (ltb-true sb start.base.shape.superblocks there.1) due change.dies fit)
 fits_by_kind ladder start contents past tag (Kind.FaultAge die sb amount) word old new sum after is_start lawful is change due
     fit =
     renamed start contents (made tag (Kind.FaultAge die sb amount) ∷ past) new sum after change.sum_is

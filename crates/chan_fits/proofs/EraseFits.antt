@@ -3,7 +3,7 @@
 use Rattle.std.proofs.Common.{◌≡◌, ◌≢◌, ℕ, ◌<◌, ◌≤◌, ◌==◌, nat_lt, ◌&&◌, Bool, true, false, List, [], ◌∷◌, length, ℤ, refl, ap}
 use Rattle.std.proofs.Common.{sym, ◌∙◌, subst, Option, Some, None, arith, IsTrue, inl, inr}
 use Rattle.std.specs.Prelude.{slice_get}
-use Rattle.std.proofs.lemmas.Bool.{cases_eq}
+use Rattle.std.proofs.lemmas.Bool.{cases_eq, ltb-true as below, eqb-false, eqb-true}
 use Rattle.std.proofs.lemmas.Bool.Decides.{nat_tests}
 use Rattle.ssd_geo.specs.BlockCells.{BlockCells, cells_at}
 use Rattle.ssd_geo.specs.Ladder.{LadderState}
@@ -21,7 +21,7 @@ use Rattle.ssd_histories.specs.Ranges.{has_place}
 use Rattle.ssd_histories.specs.Room.{victim_of}
 use Rattle.ssd_histories.specs.Start.{Start}
 use Rattle.ssd_histories.specs.States.{is_bad, is_sealed}
-use Rattle.ssd_histories.proofs.BlockSteps.{below, blocks_after_entry, candidate_sealed}
+use Rattle.ssd_histories.proofs.BlockSteps.{blocks_after_entry, candidate_sealed}
 use Rattle.ssd_histories.proofs.UsedSlots.{made}
 use Rattle.onfi_cmd.specs.DieState as Die
 use Rattle.onfi_cmd.specs.DieState.{DieState}
@@ -42,12 +42,6 @@ use Rattle.chan_fits.proofs.QuietFits.{same_counted}
 use Rattle.chan_fits.proofs.ToldBlocks.{erased_elsewhere, erased_here}
 
 -- ---- pages
-
-same_sb : (a b : ℕ) → (a == b) ≡ true → a ≡ b
-same_sb a b e = grind (arith, nat_tests)
-
-other_sb : (a b : ℕ) → (a == b) ≡ false → a ≢ b
-other_sb a b e f = grind (arith, nat_tests)
 
 -- a page of a block that was erased is empty, and a page of another block stays
 erased_page : (old new : List DieState) (sb : ℕ) (place : Place)
@@ -82,12 +76,12 @@ page_by_erase start contents past sum sb old new place below fit range inside is
 
     by_test : (b : Bool) → (place.sb == sb) ≡ b → told_page new place ≡ changed (place.sb == sb && below)
     by_test true e =
-        let here : place.sb ≡ sb = same_sb place.sb sb e in
+        let here : place.sb ≡ sb = eqb-true place.sb sb e in
         erased_page old new sb place is (omega (arith, here, count, (place_in_range start.base.shape place range).superblock))
         here
         ∙ sym (λ i. changed (e i && inside i))
     by_test false e =
-        kept_page old new sb place is (other_sb place.sb sb e) ∙ fit.pages_are place range ∙ sym (λ i. changed (e i && below))
+        kept_page old new sb place is (eqb-false place.sb sb e) ∙ fit.pages_are place range ∙ sym (λ i. changed (e i && below))
 
 -- a page after an erase that didn't come to its die
 page_by_none : (start : Start) (contents : List (Tag × List ℕ)) (past : List Entry) (sum : List ℕ) (sb : ℕ)

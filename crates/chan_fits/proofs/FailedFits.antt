@@ -32,7 +32,7 @@ use Rattle.ssd_histories.specs.Start.{Start, data_of}
 use Rattle.ssd_histories.specs.States.{is_bad, is_frontier}
 use Rattle.ssd_histories.proofs.BlockSteps.{blocks_after_entry}
 use Rattle.ssd_histories.proofs.FreshSlots.{same_place}
-use Rattle.ssd_histories.proofs.OneOfEach.{found_block, one_frontier}
+use Rattle.ssd_histories.proofs.OneOfEach.{found_block, one_frontier, frontier_turned}
 use Rattle.ssd_histories.proofs.UsedSlots.{first_holds, made, of_some}
 use Rattle.onfi_cmd.specs.DieState.{DieState}
 use Rattle.chan_dies.specs.DiesState.{blocks_told, die_at}
@@ -47,6 +47,7 @@ use Rattle.chan_fits.proofs.PlacesInRange.{HasPlaces, has_places, place_in_range
 use Rattle.chan_fits.proofs.ProgramFits.{blocks_number, may_program}
 use Rattle.chan_fits.proofs.ProgramPages.{MayProgram, changed_levels, put_levels, put_other, two_places}
 use Rattle.chan_fits.proofs.QuietFits.{StaysCounted, fits_counted, fits_faulted, kept_counted, page_stays, same_counted}
+use Rattle.shared_lemmas.proofs.Tests.{middle_holds}
 
 -- ---- pages
 
@@ -145,10 +146,6 @@ abbrev retired_state : ChannelBase → List Entry → ℕ → Bool → SbState
 retired_state base past k here = state_by (was_bad base k || (here || turned past k)) (is_picked base past k) (slots_in base)
     (used_of base past k)
 
-bad_no_frontier : (a r picked : Bool) (slots used : ℕ) → is_frontier (state_by (a || (true || r)) picked slots used) ≡ true → ⊥
-bad_no_frontier true r picked slots used e = grind (arith, e)
-bad_no_frontier false r picked slots used e = grind (arith, e)
-
 -- no superblock is the frontier after the superblock of the next slot was retired
 none_left : (base : ChannelBase) (past : List Entry) (entry : Entry) (slot : Slot) → AtMostOne is_frontier base past
     → next_slot base past ≡ Some slot
@@ -162,7 +159,7 @@ none_left base past entry slot one next after =
 
     no_more : (k : ℕ) (b : Bool) → (slot.sb == k) ≡ b → k < base.shape.superblocks
         → is_frontier (retired_state base past k b) ≡ true → ⊥
-    no_more k true e lt here = bad_no_frontier (was_bad base k) (turned past k) (is_picked base past k) (slots_in base)
+    no_more k true e lt here = frontier_turned (was_bad base k) (turned past k) (is_picked base past k) (slots_in base)
         (used_of base past k) here
     no_more k false e lt here = same slot.sb k e (next_in_frontier base past slot k next
         (frontier_is_found base past k one lt here))
@@ -246,13 +243,6 @@ stopped_with ladder start contents past entry slot word sum die P old new is_sta
       sums = failed_sum start contents past entry slot
           (one_frontier ladder start.base past (one_at_start start is_start) lawful) next states;
     }
-
--- the middle of three tests
-middle_holds : (a b d : Bool) → (a && b && d) ≡ true → b ≡ true
-middle_holds true true d e = refl
-middle_holds true false d e = absurd (grind (arith, e))
-middle_holds false true d e = refl
-middle_holds false false d e = absurd (grind (arith, e))
 
 -- the plans and counts of all dies, where a block answered FAIL
 pub refused_counted : (start : Start) (slot : Slot) (word : List ℕ) (die : ℕ) (old new : List DieState)

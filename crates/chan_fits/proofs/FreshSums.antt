@@ -23,7 +23,7 @@ use Rattle.ssd_geo.specs.declared.entry.Entry.{Entry}
 use Rattle.ssd_geo.specs.declared.kind.Kind.{Kind}
 use Rattle.ssd_geo.specs.declared.slot.Slot.{Slot}
 use Rattle.ssd_geo.specs.declared.tag.Tag.{Tag}
-use Rattle.ssd_histories.proofs.FreshPages.{two_dies}
+use Rattle.ssd_histories.proofs.FreshPages.{two_dies, bad_before, next_here, turned_bad}
 use Rattle.ssd_histories.proofs.UsedSlots.{made, next_is_used, of_some, second_holds, slot_in_range, used_kept}
 
 -- the sum of each stripe of a superblock whose slots are all unused is zeros
@@ -108,12 +108,6 @@ failed_elsewhere : (a b d : Bool) → a ≡ false → (a && b && d) ≡ false
 failed_elsewhere true b d e = absurd (grind arith)
 failed_elsewhere false b d e = refl
 
--- the next slot is the first unused one of its superblock, whichever of two equal superblocks is named
-next_here : (base : ChannelBase) (past : List Entry) (slot : Slot) (sb : ℕ) → next_slot base past ≡ Some slot
-    → has_slot base.shape slot ≡ true → sb ≡ slot.sb → slot.index ≡ used_of base past sb
-next_here base past slot sb next range e =
-    next_is_used base past slot next (slot_in_range base.shape slot range) ∙ ap {B = ℕ} (λ (n : ℕ). used_of base past n) (sym e)
-
 -- an entry that keeps the sums of the stripes above a superblock's used slots, and leaves no fewer slots used
 kept_sums : (start : Start) (contents : List (Tag × List ℕ)) (past : List Entry) (entry : Entry) (sb : ℕ)
     → used_of start.base past sb ≤ used_of start.base (entry ∷ past) sb
@@ -179,17 +173,6 @@ sums_step state start contents past tag (Kind.BadErase named die fault) range c 
     (λ stripe le. refl) h
 sums_step state start contents past tag kind range c sb good h =
     kept_sums start contents past (made tag kind) sb (used_kept sb kind (used_of start.base past sb) tt) (λ stripe le. refl) h
-
--- a superblock that isn't bad wasn't before, and didn't turn bad
-bad_before : (a t r : Bool) → (a || (t || r)) ≡ false → (a || r) ≡ false
-bad_before true t r e = e
-bad_before false true r e = absurd (grind arith)
-bad_before false false r e = e
-
-turned_bad : (a t r : Bool) → (a || (t || r)) ≡ false → t ≡ false
-turned_bad true t r e = absurd (grind arith)
-turned_bad false true r e = e
-turned_bad false false r e = refl
 
 pub fresh_sums : (ladder : List Entry → ℕ → LadderState) (start : Start) (contents : List (Tag × List ℕ)) (past : List Entry)
     → IsLawfulBy ladder start.base past → (sb : ℕ) → is_bad_superblock start.base past sb ≡ false

@@ -20,6 +20,7 @@ use Rattle.ssd_histories.specs.PastPages.{adds, clears, keeps, running_sum, sum_
 use Rattle.ssd_histories.specs.Start.{Start}
 use Rattle.ssd_histories.specs.States as States
 use Rattle.ssd_histories.proofs.UsedSlots.{made}
+use Rattle.ssd_histories.proofs.BlockSteps.{victim_no_frontier}
 
 -- the running sum, by the frontier
 abbrev sum_by : Start → List (Tag × List ℕ) → List Entry → Option ℕ → List ℕ
@@ -63,14 +64,6 @@ frontier_kept : (blocks : List BlockBase) (sb : ℕ) (to : BlockBase) → States
     → States.is_frontier (Blocks.block_at blocks sb).state ≡ false
     → Blocks.frontier_of (set blocks sb to) ≡ Blocks.frontier_of blocks
 frontier_kept blocks sb to after before = position_kept Blocks.is_frontier_block blocks sb to (after ∙ sym before)
-
--- the victim isn't the frontier, and neither is a sealed superblock
-victim_no_frontier : (state : SbState) → States.is_victim state ≡ true → States.is_frontier state ≡ false
-victim_no_frontier SbState.Victim e = refl
-victim_no_frontier SbState.Frontier e = cc
-victim_no_frontier SbState.Free e = refl
-victim_no_frontier SbState.Sealed e = refl
-victim_no_frontier SbState.Bad e = refl
 
 sealed_no_frontier : (state : SbState) → States.is_sealed state ≡ true → States.is_frontier state ≡ false
 sealed_no_frontier SbState.Sealed e = refl

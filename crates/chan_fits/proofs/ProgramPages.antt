@@ -31,6 +31,7 @@ use Rattle.chan_fits.proofs.PlacesInRange.{HasPlaces, has_places, place_in_range
 use Rattle.chan_fits.proofs.QuietFits.{page_stays}
 use Rattle.chan_fits.proofs.SumsAfter.{sum_at}
 use Rattle.chan_fits.proofs.ToldBlocks.{other_page, programmed_page, put_elsewhere}
+use Rattle.ssd_histories.proofs.SlotPrograms.{programs_own, is_place-same}
 
 -- ---- one page
 
@@ -107,13 +108,6 @@ abbrev pub changed_levels : Start → List (Tag × List ℕ) → List Entry → 
 changed_levels start contents past word place change =
     option_map (λ stored. stored.levels) (changed_page start contents past word place change)
 
--- a place is found to be itself
-pub is_place-same : (place : Place) → is_place place place ≡ true
-is_place-same place = itself place.die place.sb place.page
-  where
-    itself : (a b d : ℕ) → (a == a && b == b && d == d) ≡ true
-    itself a b d = grind (arith, nat_tests)
-
 -- what the program of a slot does to its page, to the parity's and to another
 abbrev change_by : ℕ → Slot → Bool → Bool → Bool → PageChange
 change_by dies slot here last parity =
@@ -121,12 +115,6 @@ change_by dies slot here last parity =
       | true ↦ programs
       | false ↦ elim (last && parity) [ true ↦ programs_parity slot | false ↦ leaves ]
     ]
-
-change_here : (dies : ℕ) (slot : Slot) → change_by_program dies slot (place_of_slot dies slot) ≡ programs
-change_here dies slot =
-    ap {B = PageChange} (λ (b : Bool). change_by dies slot b (is_last_of_stripe dies slot.index)
-    (is_place (place_of_slot dies slot) (place_of_parity dies slot.sb (stripe_of_index dies slot.index))))
-    (is_place-same (place_of_slot dies slot))
 
 pub not_same : (a b : Place) → a ≢ b → is_place a b ≡ false
 not_same a b differ = by_test (is_place a b) (same_place a b)
@@ -214,7 +202,7 @@ program_pages start contents past slot word sum old new may sum_is is place rang
     at_slot : told_page new slot_place ≡ changed slot_place (change_by_program start.base.shape.dies slot slot_place)
     at_slot =
         put_levels start contents past slot slot_place word sum old new may refl there.slot_range may.next.of_slot is.slot_page
-        ∙ sym (ap {B = Option (List ℤ)} (changed slot_place) (change_here start.base.shape.dies slot))
+        ∙ sym (ap {B = Option (List ℤ)} (changed slot_place) (programs_own start.base.shape.dies slot))
 
     at_parity : ClosesStripe start.base.shape slot
         → told_page new parity_place ≡ changed parity_place (change_by_program start.base.shape.dies slot parity_place)

@@ -2,7 +2,7 @@
 use Rattle.std.proofs.Common.{◌≡◌, ℕ, ◌+◌, ◌<◌, ◌≤◌, ◌^◌, ◌&&◌, Bool, true, false, List, [], length, Option, Some, None, refl, sym, ◌∙◌, subst, inl, inr, arith, All}
 use Rattle.std.specs.Prelude.{IsTrue, IsSomeAnd, pos, neg_ℤ, int_le, int_lt, option_map}
 use Rattle.std.proofs.lemmas.Int.{ints}
-use Rattle.std.proofs.lemmas.Bool.{cases_lt, ltb-true}
+use Rattle.std.proofs.lemmas.Bool.{cases_lt, ltb-true, and_parts}
 use Rattle.std.proofs.lemmas.List.{ext_get_or, get_or-map, get_or_past, length-map}
 use Rattle.std.proofs.lemmas.List.Elements.{All-weaker}
 use Rattle.std.proofs.lemmas.List.FromFn.{get_or-map-range_with_len, length-map-range_with_len}
@@ -28,6 +28,7 @@ use Rattle.ssd_geo.specs.declared.policy_view.PolicyView.{PolicyView}
 use Rattle.ssd_geo.specs.declared.row.Row.{Row}
 use Rattle.chan_state.specs.Kept.{AreFitting, channel_of}
 use Rattle.chan_state.specs.Starting.{HasBegun, MayBegin, start_of}
+use Rattle.ssd_histories.proofs.StartRows.{rows_at_start}
 
 -- rows that name used slots
 names_used_in : (base : ChannelBase) (row : Row) → IsTrue (names_used base row) → NamesUsedIn base.blocks row
@@ -41,13 +42,6 @@ used_rows start is_start row =
       | inl lt ↦ names_used_in start.base (row_at start.base.rows row) (is_start.rows_used row Row.Empty lt)
       | inr le ↦ subst (NamesUsedIn start.base.blocks) (sym (get_or_past start.base.rows row Row.Empty le)) tt
     ]
-
--- the page map and the superblocks of the base are those before the first entry
-rows_at_start : (start : Start) → IsStart start → start.base.rows ≡ rows_of start.base []
-rows_at_start start is_start =
-    ext_get_or Row.Empty start.base.rows (rows_of start.base [])
-    (is_start.rows_count ∙ sym (length-map-range_with_len (row_of start.base []) 0 start.base.shape.rows))
-    (λ row lt. sym (get_or-map-range_with_len (row_of start.base []) 0 start.base.shape.rows row row Row.Empty (omega (arith, is_start.rows_count)) (omega arith)))
 
 no_erase : (n : ℕ) → n ≡ n + 0
 no_erase n = omega arith
@@ -63,16 +57,11 @@ blocks_at_start start is_start =
     λ i. record { state = sym (state_at_start start sb is_start within) i; erases = no_erase block.erases i; used = block.used } in
     same ∙ sym (get_or-map-range_with_len (block_of start.base []) 0 start.base.shape.superblocks sb sb blank_block within (omega arith)))
 
--- of two tests that both hold
-both_hold : (a b : Bool) → (a && b) ≡ true → (a ≡ true) × (b ≡ true)
-both_hold true b e = (refl, e)
-both_hold false b e = cc
-
 -- the cell law of a base is one
 pub law_of_base : (base : ChannelBase) → HasFields base → IsCellLaw base.law
 law_of_base base fields =
-    let erased = both_hold (int_le (neg_ℤ (pos 8192)) base.law.erased) (int_le base.law.erased (pos 8190)) fields.erased in
-    let programmed = both_hold (int_lt base.law.erased base.law.programmed) (int_le base.law.programmed (pos 8191)) fields.programmed in
+    let erased = and_parts (int_le (neg_ℤ (pos 8192)) base.law.erased) (int_le base.law.erased (pos 8190)) fields.erased in
+    let programmed = and_parts (int_lt base.law.erased base.law.programmed) (int_le base.law.programmed (pos 8191)) fields.programmed in
     record {
       erased_low = grind (arith, ints, erased.0);
       programmed_low = grind (arith, ints, programmed.0);

@@ -42,11 +42,11 @@ use Rattle.chan_state.specs.Steps.{AddsEntry, CountAt, HasStepRoom, IsRefused}
 use Rattle.chan_state.specs.declared.answers.EraseAnswer.{EraseAnswer}
 use Rattle.chan_state.specs.declared.answers.EraseAnswer.TheVariants as erase
 use Rattle.chan_state.proofs.DieSteps.{both_after, counts}
-use Rattle.chan_state.proofs.LawfulSteps.{below_is, both}
 use Rattle.chan_state.proofs.Standing.{same_channel, stands_with}
 use Rattle.chan_state.proofs.Taken.{Taken, adds, few_at, fitting}
 use Rattle.chan_state.proofs.WriteSteps.{no_counts}
 use Rattle.chan_state.proofs.MovedViews.{same_moves, twice}
+use Rattle.std.proofs.lemmas.Bool.{lt-ltb, and_from}
 
 pub record EraseClauses (old : ChannelState) (was : Option PolicyView) (new : ChannelState) (now : Option PolicyView) (tag : Tag) (sb : ℕ) (result : Result EraseAnswer StepStop) : Type 0 where
   pub room : IsRefused (HasStepRoom old) old result
@@ -161,13 +161,13 @@ view_ended was sb (EraseEnd.Fault die) = refl
 lawful_erase : (state : ℕ → LadderState) (base : ChannelBase) (past : List Entry) (tag : Tag) (sb : ℕ) (end : EraseEnd) → sb < base.shape.superblocks → Lawful.MayErase base past sb
     → Ended.IsLawfulEnd base past sb end → EndsLow base.shape end → IsLawfulEntry state base past (entry_of tag (kind_of_erase sb end))
 lawful_erase state base past tag sb EraseEnd.Erased lt may lawful low =
-    record { in_range = below_is sb base.shape.superblocks lt; meets = record { may_erase = may; none_weak = lawful } }
+    record { in_range = lt-ltb sb base.shape.superblocks lt; meets = record { may_erase = may; none_weak = lawful } }
 lawful_erase state base past tag sb (EraseEnd.Failed die) lt may lawful low = record {
-  in_range = both (nat_lt sb base.shape.superblocks) (nat_lt die base.shape.dies) (below_is sb base.shape.superblocks lt) (below_is die base.shape.dies low);
+  in_range = and_from (nat_lt sb base.shape.superblocks) (nat_lt die base.shape.dies) (lt-ltb sb base.shape.superblocks lt) (lt-ltb die base.shape.dies low);
   meets = record { may_erase = may; may_fail = lawful };
 }
 lawful_erase state base past tag sb (EraseEnd.Fault die) lt may lawful low = record {
-  in_range = both (nat_lt sb base.shape.superblocks) (nat_lt die base.shape.dies) (below_is sb base.shape.superblocks lt) (below_is die base.shape.dies low);
+  in_range = and_from (nat_lt sb base.shape.superblocks) (nat_lt die base.shape.dies) (lt-ltb sb base.shape.superblocks lt) (lt-ltb die base.shape.dies low);
   meets = record { may_erase = may; may_fail = lawful };
 }
 

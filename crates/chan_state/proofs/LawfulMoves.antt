@@ -23,9 +23,10 @@ use Rattle.chan_dies.specs.declared.ends.ProgramEnd.{ProgramEnd}
 use Rattle.chan_fits.proofs.EndedPrograms.{IsLawfulProgram}
 use Rattle.chan_tables.specs.Copying.{IsMoveRoom, KeepsPage, MayCopy, copy_slot_of, is_in_victim}
 use Rattle.chan_tables.specs.declared.rooms.MoveRoom.TheVariants as room
-use Rattle.chan_state.proofs.FreeBlocks.{no_next_no_room}
 use Rattle.chan_state.specs.Kept.{kind_of_copy}
-use Rattle.chan_state.proofs.LawfulSteps.{StopsInRange, below_is, both, row_is}
+use Rattle.chan_state.proofs.LawfulSteps.{StopsInRange, row_is}
+use Rattle.std.proofs.lemmas.Bool.{lt-ltb, and_from}
+use Rattle.ssd_histories.proofs.FreeBlocks.{no_next_no_room}
 
 -- the slot for a copy is the next one
 pub copy_is_next : (blocks : List BlockBase) (look : Look) (slot : Slot) → copy_slot_of blocks look ≡ Some slot → Blocks.next_slot_of blocks ≡ Some slot
@@ -103,12 +104,12 @@ lawful_copy state base past tag at look slot ProgramEnd.Programmed found rec low
       (record { may_copy = may_copy state base past at look slot rec low may; is_programmed = programmed });
 }
 lawful_copy state base past tag at look slot (ProgramEnd.Failed die) found rec low range may failed stops = record {
-  in_range = both (has_slot base.shape slot) (nat_lt die base.shape.dies) range (below_is die base.shape.dies stops);
+  in_range = and_from (has_slot base.shape slot) (nat_lt die base.shape.dies) range (lt-ltb die base.shape.dies stops);
   meets = of_look (λ l. IsLawfulBadCopy (state at) base past l slot die false) (open_look past tag at) look found
       (record { may_copy = may_copy state base past at look slot rec low may; is_failed = failed });
 }
 lawful_copy state base past tag at look slot (ProgramEnd.Fault die) found rec low range may failed stops = record {
-  in_range = both (has_slot base.shape slot) (nat_lt die base.shape.dies) range (below_is die base.shape.dies stops);
+  in_range = and_from (has_slot base.shape slot) (nat_lt die base.shape.dies) range (lt-ltb die base.shape.dies stops);
   meets = of_look (λ l. IsLawfulBadCopy (state at) base past l slot die true) (open_look past tag at) look found
       (record { may_copy = may_copy state base past at look slot rec low may; is_failed = failed });
 }

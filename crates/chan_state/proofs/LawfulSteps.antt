@@ -22,19 +22,12 @@ use Rattle.ssd_geo.specs.declared.row.Row.{Row}
 use Rattle.ssd_geo.specs.declared.shape.Shape.{Shape}
 use Rattle.ssd_geo.specs.declared.slot.Slot.{Slot}
 use Rattle.ssd_geo.specs.declared.tag.Tag.{Tag}
-use Rattle.ssd_histories.proofs.UsedSlots.{block_is}
+use Rattle.ssd_histories.proofs.UsedSlots.{block_is, slot_in_range}
 use Rattle.chan_dies.specs.declared.ends.ProgramEnd.{ProgramEnd}
 use Rattle.chan_fits.proofs.EndedPrograms.{IsLawfulProgram}
 use Rattle.chan_state.specs.Kept.{kind_of_write}
 use Rattle.chan_tables.specs.TablesState.{is_closed_row}
-
--- both tests hold
-pub both : (a b : Bool) → a ≡ true → b ≡ true → (a && b) ≡ true
-both true b p q = q
-both false b p q = p
-
-pub below_is : (a b : ℕ) → a < b → nat_lt a b ≡ true
-below_is a b h = grind (arith, nat_tests)
+use Rattle.std.proofs.lemmas.Bool.{lt-ltb, and_from}
 
 pub some_and : {A : Type 0} (P : A → Type 0) (o : Option A) → IsSome o → ((x : A) → P x) → IsSomeAnd o P
 some_and P None some h = cc
@@ -42,12 +35,12 @@ some_and P (Some x) some h = h x
 
 pub lawful_trim : (state : ℕ → LadderState) (base : ChannelBase) (past : List Entry) (tag : Tag) (row : ℕ) → row < base.shape.rows
     → IsLawfulEntry state base past (entry_of tag (Kind.Trim row))
-lawful_trim state base past tag row lt = record { in_range = below_is row base.shape.rows lt; meets = tt }
+lawful_trim state base past tag row lt = record { in_range = lt-ltb row base.shape.rows lt; meets = tt }
 
 pub lawful_age : (state : ℕ → LadderState) (base : ChannelBase) (past : List Entry) (tag : Tag) (die sb amount : ℕ) → die < base.shape.dies → sb < base.shape.superblocks
     → IsLawfulEntry state base past (entry_of tag (Kind.Age die sb amount))
 lawful_age state base past tag die sb amount low within = record {
-  in_range = both (nat_lt die base.shape.dies) (nat_lt sb base.shape.superblocks) (below_is die base.shape.dies low) (below_is sb base.shape.superblocks within);
+  in_range = and_from (nat_lt die base.shape.dies) (nat_lt sb base.shape.superblocks) (lt-ltb die base.shape.dies low) (lt-ltb sb base.shape.superblocks within);
   meets = tt;
 }
 
@@ -79,16 +72,13 @@ lawful_fault_sense state base past tag at place level range some none asked = re
 pub lawful_fault_age : (state : ℕ → LadderState) (base : ChannelBase) (past : List Entry) (tag : Tag) (die sb amount : ℕ) → die < base.shape.dies → sb < base.shape.superblocks
     → IsLawfulEntry state base past (entry_of tag (Kind.FaultAge die sb amount))
 lawful_fault_age state base past tag die sb amount low within = record {
-  in_range = both (nat_lt die base.shape.dies) (nat_lt sb base.shape.superblocks) (below_is die base.shape.dies low) (below_is sb base.shape.superblocks within);
+  in_range = and_from (nat_lt die base.shape.dies) (nat_lt sb base.shape.superblocks) (lt-ltb die base.shape.dies low) (lt-ltb sb base.shape.superblocks within);
   meets = tt;
 }
 
 -- a row of the page map
 pub row_is : (base : ChannelBase) (past : List Entry) (row : ℕ) → row < base.shape.rows → row_at (rows_of base past) row ≡ row_of base past row
 row_is base past row lt = get_or-map-range_with_len (row_of base past) 0 base.shape.rows row row Row.Empty lt (omega arith)
-
-slot_block_in : (shape : Shape) (slot : Slot) → has_slot shape slot ≡ true → slot.sb < shape.superblocks
-slot_block_in shape slot e = grind (arith, nat_tests)
 
 -- what a look says of a row's stripe is what it is to say
 closed_is : (base : ChannelBase) (past : List Entry) (found : Row) → has_row base.shape found ≡ true
@@ -97,13 +87,13 @@ closed_is base past Row.Empty range = refl
 closed_is base past Row.Lost range = refl
 closed_is base past (Row.Page slot serial) range =
     ap {B = Bool} (λ (block : BlockBase). is_closed base.shape.dies block.used (stripe_of_index base.shape.dies slot.index))
-    (block_is base past slot.sb (slot_block_in base.shape slot range))
+    (block_is base past slot.sb (slot_in_range base.shape slot range))
 
 pub lawful_look : (state : ℕ → LadderState) (base : ChannelBase) (past : List Entry) (tag : Tag) (row : ℕ) (found : Row) → row < base.shape.rows → found ≡ row_of base past row
     → has_row base.shape found ≡ true
     → IsLawfulEntry state base past (entry_of tag (Kind.Look row found (is_closed_row base.shape (blocks_of base past) found)))
 lawful_look state base past tag row found lt is range = record {
-  in_range = both (nat_lt row base.shape.rows) (has_row base.shape found) (below_is row base.shape.rows lt) range;
+  in_range = and_from (nat_lt row base.shape.rows) (has_row base.shape found) (lt-ltb row base.shape.rows lt) range;
   meets = record { is_found = is; is_said = closed_is base past found range };
 }
 
@@ -111,7 +101,7 @@ lawful_look state base past tag row found lt is range = record {
 
 pub lawful_refused : (state : ℕ → LadderState) (base : ChannelBase) (past : List Entry) (tag : Tag) (row : ℕ) (worn : Bool) → row < base.shape.rows
     → IsLawfulRefused base past worn → IsLawfulEntry state base past (entry_of tag (Kind.Refused row worn))
-lawful_refused state base past tag row worn lt is = record { in_range = below_is row base.shape.rows lt; meets = is }
+lawful_refused state base past tag row worn lt is = record { in_range = lt-ltb row base.shape.rows lt; meets = is }
 
 -- the die that a program of a slot stopped at, if it stopped, is one of the channel's
 abbrev pub StopsInRange : ChannelBase → ProgramEnd → Type 0
@@ -123,18 +113,18 @@ pub lawful_write : (state : ℕ → LadderState) (base : ChannelBase) (past : Li
     → IsTrue (has_slot base.shape slot) → IsTrue (Blocks.blocks_have_room (blocks_of base past)) → IsLawfulProgram base past slot end → StopsInRange base end
     → IsLawfulEntry state base past (entry_of tag (kind_of_write row slot end))
 lawful_write state base past tag row slot ProgramEnd.Programmed lt range room programmed stops = record {
-  in_range = both (nat_lt row base.shape.rows) (has_slot base.shape slot) (below_is row base.shape.rows lt) range;
+  in_range = and_from (nat_lt row base.shape.rows) (has_slot base.shape slot) (lt-ltb row base.shape.rows lt) range;
   meets = record { has_room = room; is_programmed = programmed };
 }
 lawful_write state base past tag row slot (ProgramEnd.Failed die) lt range room failed stops = record {
   in_range =
-      both (nat_lt row base.shape.rows && has_slot base.shape slot) (nat_lt die base.shape.dies)
-      (both (nat_lt row base.shape.rows) (has_slot base.shape slot) (below_is row base.shape.rows lt) range) (below_is die base.shape.dies stops);
+      and_from (nat_lt row base.shape.rows && has_slot base.shape slot) (nat_lt die base.shape.dies)
+      (and_from (nat_lt row base.shape.rows) (has_slot base.shape slot) (lt-ltb row base.shape.rows lt) range) (lt-ltb die base.shape.dies stops);
   meets = record { has_room = room; is_failed = failed };
 }
 lawful_write state base past tag row slot (ProgramEnd.Fault die) lt range room failed stops = record {
   in_range =
-      both (nat_lt row base.shape.rows && has_slot base.shape slot) (nat_lt die base.shape.dies)
-      (both (nat_lt row base.shape.rows) (has_slot base.shape slot) (below_is row base.shape.rows lt) range) (below_is die base.shape.dies stops);
+      and_from (nat_lt row base.shape.rows && has_slot base.shape slot) (nat_lt die base.shape.dies)
+      (and_from (nat_lt row base.shape.rows) (has_slot base.shape slot) (lt-ltb row base.shape.rows lt) range) (lt-ltb die base.shape.dies stops);
   meets = record { has_room = room; is_failed = failed };
 }

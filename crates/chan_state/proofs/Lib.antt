@@ -2,7 +2,6 @@ pub mod Beginning
 pub mod Choices
 pub mod DieSteps
 pub mod EraseSteps
-pub mod FreeBlocks
 pub mod LawfulMoves
 pub mod LawfulSteps
 pub mod LookSteps

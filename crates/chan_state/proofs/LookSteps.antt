@@ -40,11 +40,13 @@ use Rattle.chan_state.specs.Kept.{AreFitting, channel_of}
 use Rattle.chan_state.specs.Noting.{Notes}
 use Rattle.chan_state.specs.Steps.{AddsEntry, HasLookRoom, HasStepRoom, IsRefused, LeavesFor, LooksAt}
 use Rattle.chan_state.proofs.LawfulMoves.{of_look, unchanged_row}
-use Rattle.chan_state.proofs.LawfulSteps.{below_is, lawful_leave, lawful_look, lawful_trim, row_is}
-use Rattle.chan_state.proofs.OpenLooks.{IsLookOf, by_call, found_new, found_in_past, look_of_call, open_in_past, some_same}
+use Rattle.chan_state.proofs.LawfulSteps.{lawful_leave, lawful_look, lawful_trim, row_is}
+use Rattle.chan_state.proofs.OpenLooks.{IsLookOf, by_call, found_in_past, look_of_call, open_in_past, some_same}
 use Rattle.chan_state.proofs.Standing.{same_channel}
 use Rattle.chan_state.proofs.Taken.{roomier}
 use Rattle.chan_state.proofs.Told.{IsTold, told_adds, told_fitting, told_stands}
+use Rattle.std.proofs.lemmas.Bool.{lt-ltb}
+use Rattle.chan_tables.proofs.EarlierLooks.{found_new}
 
 -- the dies stay
 pub dies_stay : (old : TablesState) (dies : DiesState) (new : TablesState) → DiesStay (channel_of old dies) (channel_of new dies)
@@ -244,7 +246,7 @@ trim_fitting old dies new tag row items (Err stop) fit e err = roomier old dies 
 
 victim_in_range : (shape : Shape) (victim : Option ℕ) → IfSome victim (λ sb. sb < shape.superblocks) → IsTrue (has_superblock shape victim)
 victim_in_range shape None lt = refl
-victim_in_range shape (Some sb) lt = below_is sb shape.superblocks lt
+victim_in_range shape (Some sb) lt = lt-ltb sb shape.superblocks lt
 
 lawful_note : (state : ℕ → LadderState) (base : ChannelBase) (past : List Entry) (tag : Tag) (note : Note) → IfSome note.victim (λ sb. sb < base.shape.superblocks)
     → note ≡ note_of (slots_in base) (blocks_of base past) (rows_of base past) (open_looks past) → IsLawfulEntry state base past (entry_of tag (kind_of_note note))

@@ -12,6 +12,7 @@ use Rattle.ssd_geo.specs.declared.policy_view.PolicyView.{PolicyView}
 use Rattle.ssd_geo.specs.declared.tag.Tag.{Tag}
 use Rattle.chan_state.specs.ChannelState.{StandsFor}
 use Rattle.chan_state.specs.Kept.{channel_of}
+use Rattle.chan_tables.proofs.EarlierLooks.{found_last}
 
 -- an open look of a call is open
 pub open_of_call : (tag : Tag) (o : Option (Tag × Look)) → IsSome (look_by tag o) → IsSome o
@@ -62,29 +63,3 @@ found_in_past old dies view start contents tag at look stands found =
 
 pub some_same : (a b : Look) → Some a ≡ Some b → a ≡ b
 some_same a b e = cc
-
-same : (a b : ℕ) → a ≡ b → (a == b) ≡ true
-same a b h = grind (arith, nat_tests)
-
--- where none began at a position, a new one there is found
-found_last : (at : ℕ) (looks : List (Tag × Look)) (pin : Tag × Look) → pin.1.at ≡ at → look_at looks at ≡ None → look_at (looks ++ pin ∷ []) at ≡ Some pin
-found_last at [] pin is none = ap (λ (b : Bool). cond b (Some pin) None) (same pin.1.at at is)
-found_last at (first ∷ looks) pin is none = by_first (began_at at first) refl (λ e. found_last at looks pin is e)
-  where
-    by_first : (b : Bool) → began_at at first ≡ b → (look_at looks at ≡ None → look_at (looks ++ pin ∷ []) at ≡ Some pin)
-        → look_at (first ∷ (looks ++ pin ∷ [])) at ≡ Some pin
-    by_first true e rest =
-        let found : Some first ≡ None = sym (ap (λ (b : Bool). cond b (Some first) (look_at looks at)) e) ∙ none in
-        cc
-    by_first false e rest =
-        ap (λ (b : Bool). cond b (Some first) (look_at (looks ++ pin ∷ []) at)) e
-        ∙ rest (sym (ap (λ (b : Bool). cond b (Some first) (look_at looks at)) e) ∙ none)
-
-same_tag : (tag : Tag) → is_same_tag tag tag ≡ true
-same_tag tag = grind (arith, nat_tests)
-
-pub found_new : (looks : List (Tag × Look)) (tag : Tag) (look : Look) → look_at looks look.at ≡ None
-    → look_by tag (look_at (looks ++ (tag, look) ∷ []) look.at) ≡ Some look
-found_new looks tag look none =
-    ap (look_by tag) (found_last look.at looks (tag, look) refl none)
-    ∙ ap (λ (b : Bool). elim b [ true ↦ Some look | false ↦ None ]) (same_tag tag)

@@ -2,7 +2,7 @@
 use Rattle.std.proofs.Common.{◌≡◌, ℕ, ◌+◌, ◌<◌, ◌≤◌, nat_le, nat_lt, ◌&&◌, Bool, true, false, List, [], ◌∷◌, length, ◌∙◌, ap, subst, Option, Some, None, Result, Ok, Err, refl, inl, inr, arith}
 use Rattle.std.specs.Prelude.{IfOk, IfSome, IsTrue, OnErr, option_map}
 use Rattle.std.specs.Prelude.{slice_index_or}
-use Rattle.std.proofs.lemmas.Bool.{cases_lt}
+use Rattle.std.proofs.lemmas.Bool.{cases_lt, lt-ltb}
 use Rattle.std.proofs.lemmas.Bool.Decides.{nat_tests}
 use Rattle.std.proofs.lemmas.List.{get_or_past}
 use Rattle.std.proofs.lemmas.List.FromFn.{get_or-map-range_with_len, length-map-range_with_len}
@@ -36,11 +36,11 @@ use Rattle.chan_state.specs.Steps.{HasStepRoom, IsRefused}
 use Rattle.chan_state.specs.declared.answers.PickAnswer.{PickAnswer}
 use Rattle.chan_state.specs.declared.answers.PickAnswer.TheVariants as pick
 use Rattle.chan_state.proofs.DieSteps.{both_after}
-use Rattle.chan_state.proofs.LawfulSteps.{below_is}
 use Rattle.chan_state.proofs.LookSteps.{dies_stay}
 use Rattle.chan_state.proofs.Standing.{same_channel, stands_with}
 use Rattle.chan_state.proofs.Taken.{Taken, adds, fitting}
 use Rattle.chan_state.proofs.MovedViews.{same_moves, twice}
+use Rattle.ssd_histories.proofs.UsedSlots.{first_holds}
 
 pub record PickClauses (old : ChannelState) (was : Option PolicyView) (new : ChannelState) (now : Option PolicyView) (tag : Tag) (result : Result PickAnswer StepStop) : Type 0 where
   pub room : IsRefused (HasStepRoom old) old result
@@ -117,10 +117,6 @@ pub record IsSealedOne (old : TablesState) (sb : ℕ) : Type 0 where
   pub in_range : sb < old.shape.superblocks
   pub sealed : IsTrue (is_sealed (Blocks.block_at old.blocks sb).state)
 
-first_holds : (a b : Bool) → (a && b) ≡ true → a ≡ true
-first_holds true b e = refl
-first_holds false b e = absurd (grind (arith, e))
-
 pub candidate_is : (old : TablesState) (sb : ℕ) → length old.blocks ≡ old.shape.superblocks → IsTrue (is_candidate_at (table_of old) sb) → IsSealedOne old sb
 candidate_is old sb count is = elim (cases_lt sb (length old.blocks)) [
   | inl lt ↦ let here : slice_index_or (table_of old) sb no_info ≡ info_of (slots_of old.shape.pages old.shape.dies) old.blocks old.rows old.looks sb =
@@ -194,7 +190,7 @@ picked_clauses old dies roomy new was now table tag sb items fit room same is ta
           stands_with old dies new dies tag (Kind.Pick sb) [] items was now start contents fit taken stands
           (record {
             lawful = record {
-              in_range = below_is sb base.shape.superblocks sb_low;
+              in_range = lt-ltb sb base.shape.superblocks sb_low;
               meets = record {
                 no_victim = subst (λ (list : List BlockBase). Blocks.victim_in list ≡ None) stands.blocks_are before.0;
                 has_free = subst (λ (list : List BlockBase). nat_le 1 (Blocks.free_blocks_in list) ≡ true) stands.blocks_are (at_least (Blocks.free_blocks_in old.blocks) before.1);

@@ -1,10 +1,12 @@
 -- What does a channel keep, and for which starts and contents does it stand? A channel doesn't keep the data of its writes, nor
 -- what it began with. So it is seen by a relation: it stands for a start and contents where its history is lawful from
 -- that start with these contents, and all that it keeps is what the definitions give at the end of that history.
-use Rattle.std.specs.Prelude.{ℕ, ◌≡◌, ◌≢◌, List, Option, Some, None}
-use Rattle.chan_dies.specs.DiesState.{die_at}
-use Rattle.chan_fits.specs.DiesFit.{DiesFit}
+use Rattle.std.specs.Prelude.{ℕ, ◌≡◌, ◌≢◌, List, length, Option, Some, None}
+use Rattle.chan_dies.specs.DiesState.{AreMounted, die_at}
+use Rattle.chan_fits.specs.DiesFit.{AreDue, DiesFit}
+use Rattle.chan_tables.specs.TablesState.{AreWhole}
 use Rattle.onfi_cmd.specs.DieState.{DieState}
+use Rattle.ssd_geo.specs.Coding.{word_bytes_in}
 use Rattle.ssd_geo.specs.Faults.{Rose}
 use Rattle.ssd_histories.specs.History.{open_looks}
 use Rattle.ssd_histories.specs.PastBlocks.{blocks_of}
@@ -18,6 +20,7 @@ use Rattle.ssd_geo.specs.declared.policy_view.PolicyView.{PolicyView}
 use Rattle.ssd_geo.specs.declared.row.Row.{Row}
 use Rattle.ssd_geo.specs.declared.shape.Shape.{Shape}
 use Rattle.ssd_geo.specs.declared.tag.Tag.{Tag}
+use Rattle.chan_state.specs.declared.parts.BaseParts.{BaseParts}
 
 -- what contracts see of a channel beside its policy: its sizes and session; the limit of its history; its page map, its
 -- superblocks and its open looks; its dies and the running sum of its open stripe; and its past, newest entry first
@@ -31,6 +34,17 @@ pub record ChannelState : Type 0 where
   pub dies : List DieState
   pub sum : List ℕ
   pub past : List Entry
+
+-- the parts of its base as a channel has them
+abbrev pub parts_of : ChannelState → BaseParts
+parts_of channel = record { blocks = channel.blocks; rows = channel.rows; sum = channel.sum }
+
+-- the parts, the dies and the sizes fit each other
+pub record EndsWhole (channel : ChannelState) : Type 0 where
+  pub tables : AreWhole channel.shape channel.blocks channel.rows
+  pub mounted : AreMounted channel.shape channel.dies
+  pub sum_bytes : length channel.sum ≡ word_bytes_in channel.shape
+  pub due : AreDue channel.shape channel.blocks channel.dies
 
 -- what a step leaves as it is
 pub record SameDrive (old new : ChannelState) : Type 0 where

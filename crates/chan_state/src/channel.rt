@@ -5,7 +5,7 @@ ghost use Rattle.ssd_histories.specs.History.{history_of, open_looks};
 ghost use Rattle.ssd_histories.specs.OpenLooks.{without_look};
 ghost use Rattle.ssd_histories.specs.Ranges.{has_place};
 ghost use Rattle.ssd_geo.specs.declared.kind.Kind.{Kind};
-ghost use Rattle.chan_state.specs.ChannelState.{Count, DiesStay, KeepsStanding};
+ghost use Rattle.chan_state.specs.ChannelState.{Count, DiesStay, EndsWhole, KeepsStanding, parts_of};
 ghost use Rattle.chan_state.specs.Noting.{Notes};
 ghost use Rattle.chan_state.specs.Starting.{HasBegun, MayBegin};
 ghost use Rattle.chan_state.specs.Steps.{AddsEntry, Ages, CountAt, GivesBits, HasLookRoom, HasStepRoom, IsOpen, IsRefused};
@@ -13,7 +13,7 @@ ghost use Rattle.chan_state.specs.Steps.{LeavesFor, LooksAt, MaySense, Senses, S
 ghost use Rattle.chan_state.specs.Writing.{Writes, WritesFor, fault_of_write};
 
 use crate::kept::Kept;
-use crate::{AgeAnswer, LookAnswer, Note, SenseAnswer, WriteAnswer};
+use crate::{AgeAnswer, BaseParts, LookAnswer, Note, SenseAnswer, WriteAnswer};
 use onfi_cmd::Die;
 use ssd_geo::{ChannelBase, Entry, Items, Memory, Place, StepStop, Tag};
 use std::alloc::Global;
@@ -159,11 +159,13 @@ impl<D: Die, P: Policy> Channel<D, P> {
         self.kept.history()
     }
 
-    /// Gives the dies and the history back. No look may be open.
-    pub fn finish(self) -> (Vec<D>, Items<Entry>)
+    /// Gives the dies, the history and the changed parts of the base back. All else of the base is as it was at the start.
+    pub fn finish(self) -> (Vec<D>, Items<Entry>, BaseParts)
         ensures dies { map D.state result.0.items ≡ self.kept.dies }
         ensures count { length self.kept.dies ≡ self.kept.shape.dies }
         ensures history { result.1 ≡ history_of self.kept.past }
+        ensures parts { result.2 ≡ parts_of self.kept }
+        ensures whole { EndsWhole self.kept }
     {
         let Channel { kept, .. } = self;
         kept.finish()

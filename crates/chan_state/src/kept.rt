@@ -3,11 +3,11 @@ ghost use Rattle.std.specs.Prelude.{◌≡◌, ◌<◌, IfOk, OnErr, OnOk, lengt
 ghost use Rattle.ssd_histories.specs.History.{history_of, open_looks};
 ghost use Rattle.ssd_histories.specs.OpenLooks.{without_look};
 ghost use Rattle.ssd_geo.specs.declared.kind.Kind.{Kind};
-ghost use Rattle.chan_state.specs.ChannelState.{DiesStay, KeepsStanding};
+ghost use Rattle.chan_state.specs.ChannelState.{DiesStay, EndsWhole, KeepsStanding, parts_of};
 ghost use Rattle.chan_state.specs.Noting.{Notes};
 ghost use Rattle.chan_state.specs.Steps.{AddsEntry, HasLookRoom, HasStepRoom, IsOpen, IsRefused, LeavesFor, LooksAt};
 
-use crate::{LookAnswer, Note};
+use crate::{BaseParts, LookAnswer, Note};
 use chan_dies::Dies;
 use chan_tables::Tables;
 use onfi_cmd::Die;
@@ -103,13 +103,17 @@ impl<D: Die> Kept<D> {
         self.tables.history()
     }
 
-    /// Gives the dies and the history back.
-    pub(crate) fn finish(self) -> (Vec<D>, Items<Entry>)
+    /// Gives the dies, the history and the changed parts of the base back.
+    pub(crate) fn finish(self) -> (Vec<D>, Items<Entry>, BaseParts)
         ensures dies { map D.state result.0.items ≡ self.dies }
         ensures count { length self.dies ≡ self.shape.dies }
         ensures history { result.1 ≡ history_of self.past }
+        ensures parts { result.2 ≡ parts_of self }
+        ensures whole { EndsWhole self }
     {
         let Kept { tables, dies, .. } = self;
-        (dies.into_dies(), tables.into_history())
+        let (dies, sum) = dies.into_parts();
+        let (blocks, rows, history) = tables.into_parts();
+        (dies, history, BaseParts { blocks, rows, sum })
     }
 }

@@ -5,7 +5,9 @@
 mod answers;
 mod channel;
 mod kept;
+mod parts;
 
 pub use answers::{AgeAnswer, EraseAnswer, MoveAnswer, PickAnswer, SenseAnswer, WriteAnswer};
 pub use chan_tables::{CondemnAnswer, LiveAnswer, LookAnswer, Note};
 pub use channel::Channel;
+pub use parts::BaseParts;

@@ -19,6 +19,7 @@ use Rattle.ssd_geo.specs.declared.tag.Tag.{Tag}
 use Rattle.chan_tables.specs.TablesState.{FitTogether, HistoryState, NamesUsedIn}
 use Rattle.chan_tables.proofs.Fits.{erases_kept}
 use Rattle.chan_tables.proofs.UsedRows.{names_more, used_set}
+use Rattle.ssd_histories.proofs.UsedSlots.{first_holds}
 
 -- a superblock has another state, and the rows still name used slots
 fit_block : (shape : Shape) (session : ℕ) (map : PageMap) (blocks : Superblocks) (looks : List (Tag × Look)) (history : HistoryState) (sb : ℕ) (to : BlockBase)
@@ -60,10 +61,6 @@ free_no_victim Sealed e = refl
 free_no_victim Bad e = refl
 free_no_victim Victim e = cc
 
-first_true : (a b : Bool) → (a && b) ≡ true → a ≡ true
-first_true true b e = refl
-first_true false b e = e
-
 is_next : (blocks : List BlockBase) (slot : Slot) → next_slot_of blocks ≡ Some slot → IsNext blocks slot.sb
 is_next blocks slot next = by_frontier (frontier_of blocks) refl (slot_block blocks (next_superblock blocks) slot next)
   where
@@ -77,7 +74,7 @@ is_next blocks slot next = by_frontier (frontier_of blocks) refl (slot_block blo
           in_range = found.0;
           not_victim =
               free_no_victim (block_at blocks slot.sb).state
-              (first_true (is_free_block (block_at blocks slot.sb)) (list_all (is_no_fresher (block_at blocks slot.sb)) blocks) found.1);
+              (first_holds (is_free_block (block_at blocks slot.sb)) (list_all (is_no_fresher (block_at blocks slot.sb)) blocks) found.1);
         }
 
 retired_used : (block : BlockBase) → is_victim_block block ≡ false → block.used ≤ (retired_block block).used

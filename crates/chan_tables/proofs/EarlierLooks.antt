@@ -1,7 +1,7 @@
 -- Open looks are those that their entries made, so an open look is found in the past, and a new look at its own position.
 use Rattle.std.proofs.Common.{◌≡◌, ℕ, ◌<◌, ◌≤◌, ◌==◌, cond, Bool, true, false, List, [], ◌∷◌, ◌++◌, length, Option, Some, None, refl, sym, ◌∙◌, ap, subst, arith, All}
 use Rattle.std.specs.Prelude.{IfSome, unwrap_or}
-use Rattle.std.proofs.lemmas.Bool.{eqb-true}
+use Rattle.std.proofs.lemmas.Bool.{eqb-true, eq-eqb}
 use Rattle.std.proofs.lemmas.Bool.Decides.{nat_tests}
 use Rattle.std.proofs.lemmas.List.Elements.{All-nil, All-cons, All-head, All-tail, All-append, All-weaker}
 use Rattle.ssd_histories.specs.History.{is_same_tag, look_by, look_made, look_of, looks_after, open_looks, with_look}
@@ -13,6 +13,9 @@ use Rattle.ssd_geo.specs.declared.look.Look.{Look}
 use Rattle.ssd_geo.specs.declared.row.Row.{Row}
 use Rattle.ssd_geo.specs.declared.tag.Tag.{Tag}
 use Rattle.ssd_histories.proofs.OpenLookLaws.{all_left}
+use Rattle.ssd_histories.proofs.MadeLooks.{made_at}
+use Rattle.shared_lemmas.proofs.Tests.{is_other}
+use Rattle.ssd_histories.proofs.SameTags.{same_tag}
 
 -- a look began before a position
 abbrev pub BeganBefore : ℕ → Tag × Look → Type 0
@@ -23,22 +26,16 @@ pub record IsMade (past : List Entry) (pin : Tag × Look) : Type 0 where
   pub before : pin.1.at < length past
   pub is_look : look_of past pin.1.at ≡ Some pin.1
 
-other : (a b : ℕ) → a < b → (a == b) ≡ false
-other a b h = grind (arith, nat_tests)
-
-same : (a b : ℕ) → a ≡ b → (a == b) ≡ true
-same a b h = grind (arith, nat_tests)
-
 -- no look began at a position before which all began
 none_before : (at : ℕ) (looks : List (Tag × Look)) → All (BeganBefore at) looks → look_at looks at ≡ None
 none_before at [] h = refl
 none_before at (pin ∷ looks) h =
-    ap (λ (b : Bool). cond b (Some pin) (look_at looks at)) (other pin.1.at at (All-head (BeganBefore at) pin looks h))
+    ap (λ (b : Bool). cond b (Some pin) (look_at looks at)) (is_other pin.1.at at (All-head (BeganBefore at) pin looks h))
     ∙ none_before at looks (All-tail (BeganBefore at) pin looks h)
 
 -- where none did, the new one is found
-found_last : (at : ℕ) (looks : List (Tag × Look)) (pin : Tag × Look) → pin.1.at ≡ at → look_at looks at ≡ None → look_at (looks ++ pin ∷ []) at ≡ Some pin
-found_last at [] pin is none = ap (λ (b : Bool). cond b (Some pin) None) (same pin.1.at at is)
+pub found_last : (at : ℕ) (looks : List (Tag × Look)) (pin : Tag × Look) → pin.1.at ≡ at → look_at looks at ≡ None → look_at (looks ++ pin ∷ []) at ≡ Some pin
+found_last at [] pin is none = ap (λ (b : Bool). cond b (Some pin) None) (eq-eqb pin.1.at at is)
 found_last at (first ∷ looks) pin is none = by_first (began_at at first) refl (λ e. found_last at looks pin is e)
   where
     by_first : (b : Bool) → began_at at first ≡ b → (look_at looks at ≡ None → look_at (looks ++ pin ∷ []) at ≡ Some pin)
@@ -81,15 +78,9 @@ made_now past tag kind (Some look) looks e at h =
       before = omega (arith, here);
       is_look =
           ap (λ (n : ℕ). elim (length past == n) [ true ↦ look_made n kind | false ↦ look_of past n ]) here
-          ∙ ap (λ (b : Bool). elim b [ true ↦ look_made (length past) kind | false ↦ look_of past (length past) ]) (same (length past) (length past) refl)
+          ∙ ap (λ (b : Bool). elim b [ true ↦ look_made (length past) kind | false ↦ look_of past (length past) ]) (eq-eqb (length past) (length past) refl)
           ∙ e;
     }
-
-made_at : (at : ℕ) (kind : Kind) (look : Look) → look_made at kind ≡ Some look → look.at ≡ at
-made_at at (Kind.Look row (Row.Page slot serial) closed) look e = ap (λ (o : Option Look). (unwrap_or o look).at) (sym e)
-made_at at (Kind.Look row Row.Empty closed) look e = cc
-made_at at (Kind.Look row Row.Lost closed) look e = cc
-made_at at kind look e = cc
 
 made_step : (past : List Entry) (tag : Tag) (kind : Kind) (looks : List (Tag × Look)) → All (IsMade past) looks
     → All (IsMade (entry_of tag kind ∷ past)) (looks_after (length past) tag kind looks)
@@ -141,9 +132,6 @@ each_found P looks at all = by_look (look_at looks at) (λ pin e. found_has P lo
     by_look : (o : Option (Tag × Look)) → ((pin : Tag × Look) → o ≡ Some pin → P pin) → IfSome o P
     by_look None h = tt
     by_look (Some pin) h = h pin refl
-
-same_tag : (tag : Tag) → is_same_tag tag tag ≡ true
-same_tag tag = grind (arith, nat_tests)
 
 pub found_new : (looks : List (Tag × Look)) (tag : Tag) (look : Look) → look_at looks look.at ≡ None
     → look_by tag (look_at (looks ++ (tag, look) ∷ []) look.at) ≡ Some look

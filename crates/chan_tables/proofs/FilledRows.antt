@@ -8,6 +8,7 @@ use Rattle.map_rows.specs.PageMap.{PageMap}
 use Rattle.ssd_histories.specs.PageMap.{NameApart, NoOtherNames, is_slot, names_slot, row_at}
 use Rattle.ssd_geo.specs.declared.row.Row.{Row}
 use Rattle.ssd_geo.specs.declared.slot.Slot.{Slot}
+use Rattle.ssd_histories.proofs.SameSlots.{is_slot-same}
 
 -- the first rows of a page map are these, and the others are empty
 pub record IsFilled (rows : List Row) (filled : ℕ) (old new : PageMap) : Type 0 where
@@ -21,10 +22,6 @@ pub all_filled : (rows : List Row) (filled : ℕ) (old new : PageMap) → length
 all_filled rows filled old new all is =
     let same : new.rows ≡ rows = ext_get_or Row.Empty new.rows rows is.count (λ row lt. is.done row (omega (arith, is.count))) in
     λ i. record { rows = same i; superblocks = is.superblocks i; slots = is.slots i }
-
--- a slot is this one
-itself : (slot : Slot) → is_slot slot slot ≡ true
-itself slot = grind (arith, nat_tests)
 
 -- no row that was filled names the slot of the next one
 pub unnamed : (rows : List Row) (filled : ℕ) (old now : PageMap) → NameApart rows → IsFilled rows filled old now → NoOtherNames now.rows filled (row_at rows filled)
@@ -42,6 +39,6 @@ unnamed rows filled old now apart is = by_row (row_at rows filled) refl
         elim (cases_lt other filled) [
           | inl less ↦
               apart slot other filled (subst (λ (row : Row). IsTrue (names_slot slot row)) (is.done other less) names)
-              (ap {B = Bool} (names_slot slot) e ∙ itself slot)
+              (ap {B = Bool} (names_slot slot) e ∙ is_slot-same slot)
           | inr more ↦ absurd (of_empty slot (row_at now.rows other) (is.empty other more) names)
         ]

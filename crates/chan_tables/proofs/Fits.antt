@@ -14,7 +14,8 @@ use Rattle.ssd_geo.specs.declared.tag.Tag.{Tag}
 use Rattle.chan_tables.specs.TablesState.{FitTogether, HasFewErases, HistoryState, NamesUsedIn}
 use Rattle.chan_tables.proofs.EarlierLooks.{none_began}
 use Rattle.chan_tables.proofs.Longer.{HasLooks, IsLonger}
-use Rattle.chan_tables.proofs.UsedRows.{names_set, names_written, next_used}
+use Rattle.chan_tables.proofs.UsedRows.{names_set, names_written}
+use Rattle.ssd_histories.proofs.NextSlots.{next_used}
 
 -- another history
 pub fit_history : (shape : Shape) (session : ℕ) (map : PageMap) (blocks : Superblocks) (before : List (Tag × Look)) (old : HistoryState) (looks : List (Tag × Look)) (history : HistoryState)

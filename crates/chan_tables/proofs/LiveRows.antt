@@ -7,18 +7,10 @@ use Rattle.ssd_histories.specs.PageMap.{first_live_in, is_slot, names_slot, owne
 use Rattle.ssd_geo.specs.declared.row.Row.{Row}
 use Rattle.ssd_geo.specs.declared.slot.Slot.{Slot}
 use Rattle.chan_tables.specs.Collecting.{NamesFirstLive}
-
-same_slot : (a b : Slot) → is_slot a b ≡ true → a ≡ b
-same_slot a b e = both (parts a.sb b.sb a.index b.index e)
-  where
-    parts : (p q r s : ℕ) → (p == q && r == s) ≡ true → (p ≡ q) × (r ≡ s)
-    parts p q r s e = (grind (arith, nat_tests), grind (arith, nat_tests))
-
-    both : (a.sb ≡ b.sb) × (a.index ≡ b.index) → a ≡ b
-    both h = λ i. record { sb = h.0 i; index = h.1 i }
+use Rattle.ssd_histories.proofs.SameSlots.{slots_agree}
 
 named_first : (rows : List Row) (sb : ℕ) (slot : Slot) (row : Row) → first_live_in rows sb ≡ Some slot → names_slot slot row ≡ true → NamesFirstLive rows sb row
-named_first rows sb slot (Row.Page named serial) first e = first ∙ ap {B = Option Slot} (λ (s : Slot). Some s) (same_slot slot named e)
+named_first rows sb slot (Row.Page named serial) first e = first ∙ ap {B = Option Slot} (λ (s : Slot). Some s) (slots_agree slot named e)
 named_first rows sb slot Row.Empty first e = cc
 named_first rows sb slot Row.Lost first e = cc
 

@@ -9,6 +9,7 @@ use Rattle.ssd_geo.specs.declared.row.Row.{Row}
 use Rattle.ssd_geo.specs.declared.slot.Slot.{Slot}
 use Rattle.ssd_histories.proofs.PinnedWords.{slot_block}
 use Rattle.chan_tables.specs.TablesState.{NamesUsedIn}
+use Rattle.ssd_histories.proofs.NextSlots.{next_index, next_used}
 
 pub names_set : (blocks : List BlockBase) (rows : List Row) (row : ℕ) (to : Row) → NamesUsedIn blocks to
     → ((r : ℕ) → NamesUsedIn blocks (row_at rows r)) → (r : ℕ) → NamesUsedIn blocks (row_at (set rows row to) r)
@@ -31,21 +32,6 @@ pub names_more : (before after : List BlockBase) → ((sb : ℕ) → (block_at b
 names_more before after le Row.Empty h = h
 names_more before after le Row.Lost h = h
 names_more before after le (Row.Page slot serial) h = omega (arith, le slot.sb)
-
-slot_is_after : (blocks : List BlockBase) (o : Option ℕ) (slot : Slot) → slot_in blocks o ≡ Some slot → slot.index ≡ (block_at blocks slot.sb).used
-slot_is_after blocks None slot e = cc
-slot_is_after blocks (Some sb) slot e =
-    let same : slot_after_used blocks sb ≡ slot = ap {B = Slot} (λ (o : Option Slot). unwrap_or o slot) e in
-    subst (λ (s : Slot). s.index ≡ (block_at blocks s.sb).used) same refl
-
--- the next slot is the first one of its superblock that isn't used
-pub next_index : (blocks : List BlockBase) (slot : Slot) → next_slot_of blocks ≡ Some slot → slot.index ≡ (block_at blocks slot.sb).used
-next_index blocks slot next = slot_is_after blocks (next_superblock blocks) slot next
-
--- the superblocks after the next slot was used
-pub next_used : (slots : ℕ) (blocks : List BlockBase) (slot : Slot) → next_slot_of blocks ≡ Some slot
-    → with_next_used slots blocks ≡ set blocks slot.sb (with_slot_used slots (block_at blocks slot.sb))
-next_used slots blocks slot next = ap (used_in slots blocks) (slot_block blocks (next_superblock blocks) slot next)
 
 -- rows after a write name used slots
 pub names_written : (slots : ℕ) (blocks : List BlockBase) (rows : List Row) (row : ℕ) (slot : Slot) (serial : ℕ) → next_slot_of blocks ≡ Some slot → slot.sb < length blocks

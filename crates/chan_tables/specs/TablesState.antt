@@ -5,7 +5,7 @@ use Rattle.std.specs.List.{list_any}
 use Rattle.allocator.specs.Superblocks.{Superblocks}
 use Rattle.map_rows.specs.PageMap.{PageMap}
 use Rattle.ssd_histories.specs.BlockLaws.{blocks_after}
-use Rattle.ssd_histories.specs.Blocks.{block_at}
+use Rattle.ssd_histories.specs.Blocks.{AreSound, block_at}
 use Rattle.ssd_histories.specs.CallSteps.{is_sense_of}
 use Rattle.ssd_histories.specs.Copies.{is_after_recovered, is_after_uncorrectable}
 use Rattle.ssd_histories.specs.History.{looks_after, open_looks}
@@ -147,6 +147,14 @@ NamesUsedIn blocks Row.Lost = ⊤
 pub record AreRowsOf (superblocks slots : ℕ) (rows : List Row) : Type 0 where
   pub within : NameWithin superblocks slots rows
   pub apart : NameApart rows
+
+-- superblocks and rows fit each other and the sizes
+pub record AreWhole (shape : Shape) (blocks : List BlockBase) (rows : List Row) : Type 0 where
+  pub blocks_count : length blocks ≡ shape.superblocks
+  pub blocks_sound : AreSound (slots_of shape.pages shape.dies) blocks
+  pub rows_count : length rows ≡ shape.rows
+  pub rows_are : AreRowsOf shape.superblocks (slots_of shape.pages shape.dies) rows
+  pub rows_used : (row : ℕ) → NamesUsedIn blocks (row_at rows row)
 
 -- a look is of one of so many rows
 abbrev pub IsOfRow : ℕ → Tag × Look → Type 0

@@ -5,7 +5,7 @@ ghost use Rattle.ssd_histories.specs.History.{history_of, open_looks};
 ghost use Rattle.ssd_histories.specs.PageMap.{row_at};
 ghost use Rattle.ssd_geo.specs.Superblock.{slots_of};
 ghost use Rattle.ssd_geo.specs.declared.row.Row.TheVariants.{Empty};
-ghost use Rattle.chan_tables.specs.TablesState.{IsStopped, room_of_look, room_of_step, HasSpare, NamesUsedIn, AreRowsOf, HasFewErases};
+ghost use Rattle.chan_tables.specs.TablesState.{IsStopped, room_of_look, room_of_step, HasSpare, NamesUsedIn, AreRowsOf, AreWhole, HasFewErases};
 
 use crate::history::History;
 use allocator::Blocks;
@@ -135,12 +135,20 @@ impl Tables {
         self.history.entries()
     }
 
-    /// Gives the history back, oldest entry first.
-    pub fn into_history(self) -> Items<Entry>
-        ensures { result ≡ history_of self.past }
+    /// Gives the superblocks, the page map and the history back, the history oldest entry first.
+    pub fn into_parts(self) -> (Items<BlockBase>, Items<Row>, Items<Entry>)
+        ensures blocks { result.0 ≡ self.blocks }
+        ensures rows { result.1 ≡ self.rows }
+        ensures history { result.2 ≡ history_of self.past }
+        ensures whole { AreWhole self.shape self.blocks self.rows }
     {
-        let Tables { history, .. } = self;
-        history.into_items()
+        let Tables {
+            blocks,
+            rows,
+            history,
+            ..
+        } = self;
+        (blocks.into_items(), rows.into_items(), history.into_items())
     }
 }
 

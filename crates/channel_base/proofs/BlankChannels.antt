@@ -16,7 +16,7 @@ use Rattle.ssd_geo.specs.StripeSum.{zero_word}
 use Rattle.ssd_geo.specs.declared.base.BlockBase.{BlockBase}
 use Rattle.ssd_geo.specs.declared.superblock.SbState.{SbState}
 use Rattle.ssd_geo.specs.declared.superblock.SbState.TheVariants.{Free, Bad}
-use Rattle.ssd_formats.proofs.ContentsLaws.{equal_is}
+use Rattle.std.proofs.lemmas.Bool.{eqb-true}
 
 -- the state of a superblock that is factory bad, or isn't
 abbrev pub blank_state : Bool → SbState
@@ -69,7 +69,7 @@ none_found test f h (x ∷ xs) = rw (h x) (none_found test f h xs)
 pub none_counted : {A : Type 0} (test : A → Bool) (f : ℕ → A) → ((x : ℕ) → test (f x) ≡ false) → (xs : List ℕ) →
     count_by test (map f xs) ≡ 0
 none_counted test f h xs =
-    equal_is (count_by test (map f xs)) 0
+    eqb-true (count_by test (map f xs)) 0
     (sum_by-zero (λ x. cond (test x) 1 0) (map f xs)
     ∙ each_passes (λ x. cond (test x) 1 0 == 0) f (λ x. ap (λ (b : Bool). cond b 1 0 == 0) (h x)) xs)
 

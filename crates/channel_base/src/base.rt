@@ -19,6 +19,10 @@ pub fn base_of(
     ensures base { IfOk result (λ base. (saved : ChannelImage) → blocks ≡ blocks_of_saved saved.blocks → rows ≡ saved.rows
         → sum ≡ sum_of_saved (sizes_of head.now.shape) saved → IsBaseOf (head_of head.now) channel saved base) }
     ensures shape { IfOk result (λ base. base.shape ≡ head.now.shape) }
+    ensures number { IfOk result (λ base. base.channel ≡ channel) }
+    ensures blocks { IfOk result (λ base. base.blocks ≡ blocks) }
+    ensures rows { IfOk result (λ base. base.rows ≡ rows) }
+    ensures sum { IfOk result (λ base. base.sum ≡ sum) }
 {
     let entries = copied(alloc, &head.entries)?;
     let read_levels = copied(alloc, &head.read_levels)?;

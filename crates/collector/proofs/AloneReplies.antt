@@ -327,13 +327,13 @@ module _ (caller : CallerView) (tag : Tag) (alone : caller.number ≡ None) (dec
           (is_seen caller tag alone before has.picks.0 has.picks.1) has.picks.3) has.follows
 
 -- what the entries of a round decide of a write, and of a collect
-in_write : RoundReply → Option Reply
+unfoldable pub in_write : RoundReply → Option Reply
 in_write (round.Erased sb) = None
 in_write (round.Retired sb) = None
 in_write (round.DieFault die) = Some (Reply.DieFault die)
 in_write round.Left = None
 
-in_collect : RoundReply → Option Reply
+unfoldable pub in_collect : RoundReply → Option Reply
 in_collect (round.Erased sb) = Some (Reply.Collected sb)
 in_collect (round.Retired sb) = Some (Reply.Retired sb)
 in_collect (round.DieFault die) = Some (Reply.DieFault die)
@@ -384,14 +384,14 @@ as_write : Option WriteReply → Option Reply
 as_write None = None
 as_write (Some reply) = Some (reply_to_write reply)
 
-round_goes_on : (reply : RoundReply) → reply_of_round reply ≡ None → in_write reply ≡ None
+pub round_goes_on : (reply : RoundReply) → reply_of_round reply ≡ None → in_write reply ≡ None
 unfolding in_write
 round_goes_on (round.Erased sb) e = refl
 round_goes_on (round.Retired sb) e = refl
 round_goes_on (round.DieFault die) e = absurd (none-some (written.DieFault die) (sym e))
 round_goes_on round.Left e = refl
 
-round_faults : (ended : RoundReply) (reply : WriteReply) → reply_of_round ended ≡ Some reply →
+pub round_faults : (ended : RoundReply) (reply : WriteReply) → reply_of_round ended ≡ Some reply →
     in_write ended ≡ Some (reply_to_write reply)
 unfolding in_write as_write
 round_faults (round.Erased sb) reply e = absurd (none-some reply e)
@@ -466,7 +466,7 @@ as_collect : Option CollectReply → Reply
 as_collect None = Reply.Idle
 as_collect (Some reply) = reply_to_collect reply
 
-collected_so : (ended : RoundReply) (reply : CollectReply) → decided_by ended ≡ Some reply →
+pub collected_so : (ended : RoundReply) (reply : CollectReply) → decided_by ended ≡ Some reply →
     unwrap_or (in_collect ended) Reply.Idle ≡ reply_to_collect reply
 unfolding in_collect as_collect
 collected_so (round.Erased sb) reply e = ap as_collect e
@@ -474,7 +474,7 @@ collected_so (round.Retired sb) reply e = ap as_collect e
 collected_so (round.DieFault die) reply e = ap as_collect e
 collected_so round.Left reply e = absurd (none-some reply e)
 
-round_so : (ended : RoundReply) → unwrap_or (in_collect ended) Reply.Idle ≡ reply_to_round ended
+pub round_so : (ended : RoundReply) → unwrap_or (in_collect ended) Reply.Idle ≡ reply_to_round ended
 unfolding in_collect
 round_so (round.Erased sb) = refl
 round_so (round.Retired sb) = refl

@@ -3,7 +3,7 @@
 use Rattle.std.proofs.Common.{◌≡◌, ℕ, ◌+◌, ◌*◌, ◌≤◌, ◌&&◌, nat_le, Bool, true, false, List, [], ◌∷◌, ◌++◌, length, refl, sym, ap, subst, ◌∙◌, inl, inr, arith}
 use Rattle.std.specs.Prelude.{Result, Ok, Err, None, Option, Some}
 use Rattle.std.specs.List.{list_all}
-use Rattle.std.proofs.lemmas.Bool.{and_parts, false≢true}
+use Rattle.std.proofs.lemmas.Bool.{and_parts, false≢true, and_from}
 use Rattle.std.proofs.lemmas.Bool.Decides.{nat_tests}
 use Rattle.chan_calls.specs.Caller.{CallerView, HasLookRoom, HasStepRoom}
 use Rattle.chan_calls.specs.Collecting.{MakesErase, MakesPick}
@@ -53,9 +53,6 @@ look_room : (limit caller_limit entries looks : ℕ) → caller_limit ≡ limit 
     nat_le (entries + 256 * (looks + 1)) limit ≡ true
 look_room limit caller_limit entries looks same room = grind (arith, nat_tests, same)
 
-both_true : (a b : Bool) → a ≡ true → b ≡ true → (a && b) ≡ true
-both_true a b is_a is_b = rw (is_a, is_b) refl
-
 module _ (start : Start) (contents : List (Tag × List ℕ)) (caller : CallerView) (tag : Tag)
     (copies_are : CopiesAloneAreCopies) (alone : caller.number ≡ None) (limit_is : caller.limit ≡ start.limit) where
   abbrev Found : List Entry → Type 0
@@ -71,7 +68,7 @@ module _ (start : Start) (contents : List (Tag × List ℕ)) (caller : CallerVie
   added : (entry : Entry) (before after : List Entry) → after ≡ entry ∷ before → has_room_for start.limit before entry.kind ≡ true →
       Found before → Found after
   added entry before after is room found =
-      subst Found (sym is) (both_true (found_room start.limit before) (has_room_for start.limit before entry.kind) found room)
+      subst Found (sym is) (and_from (found_room start.limit before) (has_room_for start.limit before entry.kind) found room)
 
   unchanged : (before after : List Entry) → after ≡ before → Found before → Found after
   unchanged before after is found = subst Found (sym is) found

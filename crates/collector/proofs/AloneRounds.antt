@@ -45,12 +45,8 @@ use Rattle.collector.specs.declared.replies.RoundReply.TheVariants as round
 use Rattle.collector.proofs.GrownPasts.{Grows, decided_grows, end_grows, lawful_within, noted_grows, noting_grows, page_grows, emptying_grows}
 use Rattle.collector.proofs.KeptVictims.{LeavesAll, copy_leaves, picked_is_victim}
 use Rattle.collector.proofs.LiveSlots.{first_is_live}
-
-same : (n : ℕ) → (n == n) ≡ true
-same n = grind (arith, nat_tests)
-
-itself : (slot : Slot) → is_slot slot slot ≡ true
-itself slot = rw (same slot.sb, same slot.index) refl
+use Rattle.ssd_histories.proofs.SameSlots.{is_slot-same}
+use Rattle.shared_lemmas.proofs.Tests.{same_number as same}
 
 pub positive : (n : ℕ) → 0 < n → n ≡ 0 → ⊥
 positive n some none = omega arith
@@ -112,7 +108,7 @@ module _ (start : Start) (contents : List (Tag × List ℕ)) (caller : CallerVie
               look = step_of_look tag page.look now;
               is_copy = is_copy.is_copy;
               is_first =
-                  subst (λ (found : Option Slot). is_that_slot found page.look.slot ≡ true) (sym named) (itself page.look.slot);
+                  subst (λ (found : Option Slot). is_that_slot found page.look.slot ≡ true) (sym named) (is_slot-same page.look.slot);
             };
             ends_is = is_copy.ends_is;
             fault_is = is_copy.fault_is;

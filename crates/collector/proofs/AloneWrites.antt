@@ -2,7 +2,7 @@
 -- adds an entry: where a write needs room, there is a victim or one may be picked.
 use Rattle.std.proofs.Common.{◌≡◌, ℕ, ◌<◌, ◌==◌, ◌&&◌, ◌||◌, nat_le, not, Bool, true, false, List, [], Option, Some, None, refl, sym, ap, subst, ◌∙◌, arith}
 use Rattle.std.specs.Prelude.{Result, Ok, Err, is_none}
-use Rattle.std.proofs.lemmas.Bool.{false≢true}
+use Rattle.std.proofs.lemmas.Bool.{false≢true, or_left, or_right}
 use Rattle.std.proofs.lemmas.Bool.Decides.{nat_tests}
 use Rattle.std.proofs.lemmas.Option.{none-some}
 use Rattle.chan_calls.specs.Caller.{CallerView, HasStepRoom}
@@ -39,15 +39,7 @@ use Rattle.collector.specs.declared.replies.WriteReply.{WriteReply}
 use Rattle.collector.proofs.AloneRounds.{Stands, found_none, no_stop, pinned, positive, round_alone, stands_on}
 use Rattle.collector.proofs.GrownPasts.{Advances, Grows, advances_on, advances_then, emptying_grows, end_grows, ends_write_grow, lawful_within, page_advances, pages_grow, step_advances, writes_on_grow}
 
-or_first : (a b : Bool) → a ≡ true → (a || b) ≡ true
-or_first true b e = refl
-or_first false b e = absurd (false≢true e)
-
-or_second : (a b : Bool) → b ≡ true → (a || b) ≡ true
-or_second true b e = refl
-or_second false b e = e
-
-faultless_so : (reply : RoundReply) → reply_of_round reply ≡ None → is_faultless (end_of reply) ≡ true
+pub faultless_so : (reply : RoundReply) → reply_of_round reply ≡ None → is_faultless (end_of reply) ≡ true
 faultless_so (round.Erased sb) e = refl
 faultless_so (round.Retired sb) e = refl
 faultless_so (round.DieFault die) e = absurd (none-some (WriteReply.DieFault die) (sym e))
@@ -116,14 +108,14 @@ module _ (start : Start) (contents : List (Tag × List ℕ)) (caller : CallerVie
       subst (λ (past : List Entry). IsWriteAlone start contents tag row before past) (sym made.0)
       (record {
         is_write =
-            is_refused made.1.0 (or_first (is_worn start.base before) (is_full start.base before) made.1.1);
+            is_refused made.1.0 (or_left (is_worn start.base before) (is_full start.base before) made.1.1);
         none_open = none;
       })
   ended_write before after write.Full reply none is made =
       subst (λ (past : List Entry). IsWriteAlone start contents tag row before past) (sym made.0)
       (record {
         is_write =
-            is_refused made.1.0 (or_second (is_worn start.base before) (is_full start.base before) made.1.2);
+            is_refused made.1.0 (or_right (is_worn start.base before) (is_full start.base before) made.1.2);
         none_open = none;
       })
   ended_write before after (write.Failed sb) reply none is made = absurd (none-some reply is)

@@ -3,10 +3,9 @@
 use Rattle.std.proofs.Common.{◌≡◌, ℕ, zero, suc, ◌+◌, ◌<◌, ◌≤◌, ◌==◌, ◌&&◌, ◌||◌, nat_lt, not, cond, Bool, true, false, List, [], ◌∷◌, ◌++◌, length, map, set, Option, Some, None, refl, sym, ap, subst, ◌∙◌, arith}
 use Rattle.std.specs.Prelude.{if◌then◌else◌, position}
 use Rattle.std.specs.List.{list_all, list_any, position_or_len, range_with_len}
-use Rattle.std.proofs.lemmas.Bool.{and_parts, false≢true}
+use Rattle.std.proofs.lemmas.Bool.{and_parts, false≢true, lt-ltb, ltb-true, eqb-true}
 use Rattle.std.proofs.lemmas.Bool.Decides.{nat_tests}
 use Rattle.std.proofs.lemmas.List.FromFn.{length-map-range_with_len}
-use Rattle.chan_state.proofs.LawfulSteps.{below_is}
 use Rattle.ssd_geo.specs.Ladder.{LadderState, is_recovered, is_uncorrectable}
 use Rattle.ssd_geo.specs.declared.base.BlockBase.{BlockBase}
 use Rattle.ssd_geo.specs.declared.base.ChannelBase.{ChannelBase}
@@ -28,7 +27,7 @@ use Rattle.ssd_histories.specs.Ranges.{has_slot, is_in_range}
 use Rattle.ssd_histories.specs.Room.{next_slot, victim_of}
 use Rattle.ssd_histories.specs.SerialCalls.{AreStepsFrom, entry_of}
 use Rattle.ssd_histories.specs.States.{is_bad, is_free, is_frontier, is_victim}
-use Rattle.ssd_histories.proofs.BlockSteps.{below, blocks_after_entry}
+use Rattle.ssd_histories.proofs.BlockSteps.{blocks_after_entry}
 use Rattle.ssd_histories.proofs.PinnedWords.{usable_next}
 use Rattle.ssd_histories.proofs.UsedSlots.{first_holds, of_some}
 
@@ -58,9 +57,6 @@ unpicked true false slots used e = refl
 unpicked false true slots used e = absurd (false≢true e)
 unpicked false false slots used e = refl
 
-equal : (a b : ℕ) → (a == b) ≡ true → a ≡ b
-equal a b e = grind (arith, nat_tests)
-
 -- a failed program turns bad a superblock that isn't picked
 turned_bad : (base : ChannelBase) (past : List Entry) (slot : Slot) → next_slot base past ≡ Some slot →
     has_slot base.shape slot ≡ true →
@@ -73,7 +69,7 @@ turned_bad base past slot next range sb true is =
     let none : is_picked base past slot.sb ≡ false =
     unpicked (is_bad_superblock base past slot.sb) (is_picked base past slot.sb) (slots_in base) (used_of base past slot.sb)
     (usable_next base past slot next range) in
-    let here : is_picked base past sb ≡ false = subst (λ (n : ℕ). is_picked base past n ≡ false) (equal slot.sb sb is) none in
+    let here : is_picked base past sb ≡ false = subst (λ (n : ℕ). is_picked base past n ≡ false) (eqb-true slot.sb sb is) none in
     ap (λ (p : Bool). p && not (is_bad (block_before base sb).state || (true || list_any (λ entry. turns_bad sb entry.kind)
     past))) here
     ∙ sym (ap (λ (p : Bool). p && not (is_bad_superblock base past sb)) here)
@@ -362,11 +358,11 @@ picked_is_victim ladder base tag sb past lawful =
     let victim : BlockBase = victim_block (block_at blocks sb) in
     let count : length blocks ≡ base.shape.superblocks = length-map-range_with_len (block_of base past) 0
     base.shape.superblocks in
-    let low : sb < base.shape.superblocks = below sb base.shape.superblocks lawful.1.in_range in
+    let low : sb < base.shape.superblocks = ltb-true sb base.shape.superblocks lawful.1.in_range in
     let here : position_or_len is_victim_block (set blocks sb victim) ≡ sb =
     put_first blocks sb victim refl (omega (arith, low, count))
     (none_is_far (position_or_len is_victim_block blocks) (length blocks) lawful.1.meets.no_victim) in
     let long : length (set blocks sb victim) ≡ base.shape.superblocks = length_put blocks sb victim ∙ count in
     ap (position is_victim_block) (blocks_after_entry ladder base (entry_of tag (Kind.Pick sb)) past lawful)
     ∙ (λ i. cond (nat_lt (here i) (long i)) (Some (here i)) None)
-    ∙ ap (λ (b : Bool). cond b (Some sb) None) (below_is sb base.shape.superblocks low)
+    ∙ ap (λ (b : Bool). cond b (Some sb) None) (lt-ltb sb base.shape.superblocks low)

@@ -19,4 +19,4 @@ pub use alone_laws::{
 pub use collecting::collect;
 pub use replies::{CollectReply, RoundReply, WriteReply};
 pub use rounds::round;
-pub use writing::write;
+pub use writing::{write, write_or_round};

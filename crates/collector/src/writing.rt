@@ -21,8 +21,9 @@ fn reply_of_round(ended: RoundReply) -> Option<WriteReply>
     }
 }
 
-// Writes the data once, and makes a round where that needs room. None says that the write goes on.
-fn turn<S: Steps, G: Gate>(
+/// Writes the data once, and makes a round where that needs room. None says that the write goes on: a program
+/// answered FAIL, or a round made room. It makes no further turn, so that a caller among others may wait between turns.
+pub fn write_or_round<S: Steps, G: Gate>(
     worker: &mut Worker,
     steps: &mut S,
     gate: &G,
@@ -81,7 +82,7 @@ pub fn write<S: Steps, G: Gate>(
 {
     copies_alone_are_copies();
     'turns: loop {
-        match turn(worker, steps, gate, tag, row, bytes)? {
+        match write_or_round(worker, steps, gate, tag, row, bytes)? {
             Some(reply) => return Ok(reply),
             None => {}
         }

@@ -1,26 +1,12 @@
 -- Which texts are numbers, as the library reads them, and which of those are in a range.
 use Rattle.std.proofs.Common.{◌≡◌, refl, sym, ap, ◌∙◌, ℕ, ◌^◌, ◌<◌, Bool, true, false, cond, ◌&&◌, nat_lt, if◌then◌else◌, [], ◌∷◌, length, Option, Some, None, Result, Ok, Err, arith, option_and_then}
 use Rattle.std.specs.Result.{OkIff, result_ok}
-use Rattle.std.specs.Str.{IsUtf8, all_ascii_digits}
+use Rattle.std.specs.Str.{all_ascii_digits}
 use Rattle.std.specs.Str.Parse.{ParsesUnsigned, digits_value}
-use Rattle.std.proofs.lemmas.Fmt.{IsAscii-from_digits}
 use Rattle.std.proofs.lemmas.Grind.{common_steps}
-use Rattle.std.proofs.lemmas.Str.{IsUtf8-from_ascii}
 use Rattle.std.proofs.lemmas.Str.Parse.{parse_digits}
-use Rattle.ssd_formats.proofs.NumberLaws.{own}
+use Rattle.ssd_formats.proofs.NumberLaws.{number_is_spelled, own}
 use Rattle.ssd_formats.specs.Numbers.{Text, is_number, number_below, number_of_text}
-
-left_true : (a b : Bool) → (a && b) ≡ true → a ≡ true
-left_true true b e = refl
-left_true false b e = absurd (cc)
-
--- a number has digits, and nothing else
-digits_alone : (text : Text) → is_number text ≡ true → (all_ascii_digits text ≡ true) × (0 < length text)
-digits_alone [] e = absurd (cc)
-digits_alone (c ∷ cs) e = (left_true (all_ascii_digits (c ∷ cs)) _ e, omega arith)
-
-pub number_is_text : (text : Text) → is_number text ≡ true → IsUtf8 text
-number_is_text text e = IsUtf8-from_ascii text (IsAscii-from_digits text (own.to text (digits_alone text e).0))
 
 fits : (n bound : ℕ) → n < bound → cond (nat_lt n bound) (Some n) None ≡ Some n
 fits n bound h = grind (arith, common_steps)
@@ -37,7 +23,7 @@ parsed_or_none n long (Err e) some is = sym (is_too_great n (2 ^ 32) (λ small. 
 pub parsed_is_number : {E : Type 0} (text : Text) (parsed : Result ℕ E) → is_number text ≡ true → ParsesUnsigned 32 10 text parsed →
     result_ok parsed ≡ number_below (2 ^ 32) text
 parsed_is_number text parsed e is =
-    let digits = digits_alone text e in
+    let digits = number_is_spelled text e in
     let read = parse_digits own 32 text parsed is digits.0 in
     rw e (parsed_or_none (digits_value 10 text) (length text) parsed digits.1 read)
 

@@ -9,16 +9,13 @@ use Rattle.std.proofs.lemmas.List.Sums.{passes_at_first}
 use Rattle.ssd_formats.specs.Numbers.{Text}
 use Rattle.ssd_formats.specs.Words.{Setting, are_named_once, is_equals_sign, is_named, is_value, setting_of, setting_of_word, settings_of_words, value_named}
 use Rattle.command_words.specs.Options.{are_options, is_named_last, options_in, value_in_word}
-
-if_some : {A : Type 0} (b : Bool) (m n : A) → cond b (Some m) None ≡ Some n → (b ≡ true) × (m ≡ n)
-if_some true m n e = (refl, cc)
-if_some false m n e = absurd (cc)
+use Rattle.std.proofs.lemmas.Option.{cond_some}
 
 -- the name stands before the first `=`, and the value behind it
 pub cut_at_sign : (text : Text) (at : ℕ) → position is_equals_sign text ≡ Some at → is_value (drop (at + 1) text) ≡ true →
     Some (take at text, take (length text - (at + 1)) (drop (at + 1) text)) ≡ setting_of text
 cut_at_sign text at found valued =
-    let both = if_some (nat_lt (position_or_len is_equals_sign text) (length text)) (position_or_len is_equals_sign text) at found in
+    let both = cond_some (nat_lt (position_or_len is_equals_sign text) (length text)) (position_or_len is_equals_sign text) at found in
     let inside : position_or_len is_equals_sign text < length text = let b = both.0 in grind (arith, common_steps) in
     let some : list_any is_equals_sign text ≡ true = list_any_at is_equals_sign text (position_or_len is_equals_sign text) 0 inside (passes_at_first is_equals_sign text 0 inside) in
     let all : take (length text - (at + 1)) (drop (at + 1) text) ≡ drop (at + 1) text = take_all (length text - (at + 1)) (drop (at + 1) text) (omega (arith, length-drop (at + 1) text)) in

@@ -22,7 +22,7 @@ use Rattle.ssd_histories.specs.Start.{Start}
 use Rattle.recovery_laws.specs.ReadReplies.{HasContents, IsTracedRun, IsWrittenRun}
 use Rattle.recovery_laws.proofs.StartPages.{starts_have_named_pages}
 use Rattle.recovery_laws.proofs.WritingCalls.{traced_runs_are_written}
-use Rattle.serial_laws.proofs.Lists.{all_at, all_both, numbered_at, same_number}
+use Rattle.serial_laws.proofs.Lists.{all_both}
 use Rattle.run_laws.specs.FirstSenses.{IsUnagedPast, ReadsBack}
 use Rattle.run_laws.specs.Headline.{Headline}
 use Rattle.run_laws.specs.Runs.{Run, channels_of, data_in}
@@ -39,6 +39,9 @@ use Rattle.complete_runs.proofs.KnownRows.{AreEmpty, empty_row}
 use Rattle.complete_runs.proofs.ReadAnswers.{reads_answer_plain}
 use Rattle.complete_runs.proofs.ToldWords.{told_levels_read_back}
 use Rattle.complete_runs.proofs.UnagedCalls.{unaged_calls_age_none}
+use Rattle.recovery_laws.proofs.AnsweredReads.{whole_call}
+use Rattle.shared_lemmas.proofs.Lists.{all_at, numbered_at}
+use Rattle.shared_lemmas.proofs.Tests.{same_number}
 
 -- the contents of a trace give a write its data
 own_data : (actors count : ℕ) (done rest : List TraceCall) (tag : Tag) (verb : Verb) →
@@ -61,21 +64,6 @@ rest_data actors count done (call ∷ rest) numbered have =
     (subst (λ (calls : List TraceCall). All (λ other. HasContents count (contents_of count calls) other.tag other.verb) rest) joined
     (rest_data actors count (done ++ call ∷ []) rest (subst (AreNumberedAfter actors []) (sym joined) numbered)
     (All-tail (λ (other : TraceCall). HasData count other.verb) call rest have)))
-
--- a call that has a reply was answered, and so it was made whole
-made_whole : (contents : List (Tag × List ℕ)) (runs : List ChannelRun) (call : TraceCall) (replies : List (List Reply)) (reply : Reply) →
-    IsAsAnswered contents runs (nat_lt call.tag.call (answered_by replies call.tag.actor)) (call.tag.call == answered_by replies call.tag.actor) call →
-    reply_to replies call.tag ≡ Some reply → IsWhole contents runs call
-made_whole contents runs call replies reply made is =
-    by_test (nat_lt call.tag.call (answered_by replies call.tag.actor)) (call.tag.call == answered_by replies call.tag.actor)
-    (below (slice_get_within (slice_index_or replies call.tag.actor _) call.tag.call reply is)) made
-  where
-    below : {a b : ℕ} → a < b → nat_lt a b ≡ true
-    below lt = grind (arith, nat_tests)
-
-    by_test : (answered first : Bool) → answered ≡ true → IsAsAnswered contents runs answered first call → IsWhole contents runs call
-    by_test true first e whole = whole
-    by_test false first e whole = absurd (false≢true e)
 
 -- what a channel of such a run has
 pub record AnswersReads (contents : List (Tag × List ℕ)) (run : ChannelRun) : Type 0 where
@@ -160,7 +148,7 @@ first_senses_answer_reads head run blank reads has_calls headline none unaged = 
     let call : TraceCall = slice_index_or run.calls.calls k other in
     verb_answers (data_in head run) (channels_of run)
     (all_answer head run blank has_calls headline reads unaged (uncounted_runs_are_faultless head run headline none)) call.tag reply call.verb
-    (made_whole (data_in head run) (channels_of run) call run.replies reply (headline.in_order.made k other within) is)
+    (whole_call (data_in head run) (channels_of run) call run.replies reply (headline.in_order.made k other within) is)
     (headline.are_replies.are_replies k other within reply is)
 
 -- so it is where the first read level tells the cells apart

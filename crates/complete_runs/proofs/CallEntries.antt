@@ -13,7 +13,7 @@ use Rattle.ssd_geo.specs.declared.trace.TraceCall.{TraceCall}
 use Rattle.ssd_histories.specs.CallSteps.{CallStep, steps_of}
 use Rattle.ssd_histories.specs.CallsInOrder.{AreCallSteps, AreCallsInOrder, ChannelRun, IsAsAnswered, IsBegunOn, answered_by, is_of_call, steps_on}
 use Rattle.ssd_histories.specs.History.{is_same_tag}
-use Rattle.serial_laws.proofs.Lists.{all_at, numbered_at}
+use Rattle.shared_lemmas.proofs.Lists.{all_at, numbered_at}
 
 pub all_front : {X : Type 0} (P : X → Type 0) (xs ys : List X) → All P (xs ++ ys) → All P xs
 all_front P [] ys all = All-nil P

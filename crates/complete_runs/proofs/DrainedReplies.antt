@@ -14,9 +14,11 @@ use Rattle.ssd_geo.specs.declared.tag.Tag.{Tag}
 use Rattle.ssd_histories.specs.CallSteps.{CallStep, failed_die, is_fault}
 use Rattle.ssd_histories.specs.CallsInOrder.{ChannelRun, IsDrainReply, ladder_in, steps_on}
 use Rattle.ssd_histories.specs.Replies.{decided_pages, drained_on, fault_refresh_reply, is_die_fault, pages_on, refresh_decided, refresh_of_ladder, refresh_reply, row_looked_at}
-use Rattle.serial_laws.proofs.Lists.{IsItemAt, all_at, item_at, numbered_at, same_number}
+use Rattle.serial_laws.proofs.Lists.{IsItemAt, item_at}
 use Rattle.complete_runs.specs.UncountedRuns.{IsFaultless, tells_fault}
 use Rattle.complete_runs.proofs.FirstSteps.{first_has, steps_have}
+use Rattle.shared_lemmas.proofs.Lists.{all_at, numbered_at}
+use Rattle.shared_lemmas.proofs.Tests.{same_number}
 
 -- no call of a die failed in a step
 abbrev pub Calm : CallStep → Type 0

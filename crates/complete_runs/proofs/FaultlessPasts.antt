@@ -16,11 +16,12 @@ use Rattle.ssd_histories.specs.Ranges.{has_slot, is_in_range}
 use Rattle.ssd_histories.specs.Standing.{IsPastOf, faults_of, is_fault_of}
 use Rattle.ssd_histories.proofs.UsedSlots.{made}
 use Rattle.history_laws.proofs.Counting.{none_pass}
-use Rattle.serial_laws.proofs.Lists.{all_both, same_number}
+use Rattle.serial_laws.proofs.Lists.{all_both}
 use Rattle.run_laws.specs.Headline.{AreCounted}
 use Rattle.run_laws.specs.Runs.{FaultCounts, channels_of, data_in}
 use Rattle.run_laws.proofs.CountedFaults.{uncounted_faults_are_none}
 use Rattle.complete_runs.specs.UncountedRuns.{CountNone, IsFaultless, UncountedRunsAreFaultless}
+use Rattle.shared_lemmas.proofs.Tests.{same_number}
 
 -- what an entry names is the channel's
 abbrev IsInRange : Shape → Entry → Type 0

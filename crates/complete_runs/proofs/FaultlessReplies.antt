@@ -14,13 +14,13 @@ use Rattle.ssd_geo.specs.declared.trace.Verb.{Verb}
 use Rattle.ssd_histories.specs.CallSteps.{CallStep, is_fault}
 use Rattle.ssd_histories.specs.CallsInOrder.{ChannelRun, IsReplyBy, ladder_in, steps_on}
 use Rattle.ssd_histories.specs.Replies.{collect_decided, collect_reply, fault_reply, first_reply, is_die_fault, read_decided, read_reply, refresh_reply, reply_of_ladder, reply_of_refresh, single_decided, single_reply, write_decided, write_reply}
-use Rattle.serial_laws.proofs.Lists.{all_at}
 use Rattle.run_laws.specs.Runs.{channels_of, data_in}
 use Rattle.run_laws.proofs.ChangedRuns.{runs_as_many}
 use Rattle.complete_runs.specs.UncountedRuns.{IsFaultless, UncountedRunsReplyNoFault, tells_fault}
 use Rattle.complete_runs.proofs.DrainedReplies.{Calm, RefreshesCalmly, drained_tell_none, none_failed, refresh_is_calm}
 use Rattle.complete_runs.proofs.FaultlessPasts.{uncounted_runs_are_faultless}
 use Rattle.complete_runs.proofs.FirstSteps.{first_has, if_some, on_run, steps_have}
+use Rattle.shared_lemmas.proofs.Lists.{all_at}
 
 -- a reply tells of no fault
 abbrev TellsNone : Reply → Type 0

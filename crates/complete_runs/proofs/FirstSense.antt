@@ -8,8 +8,8 @@ use Rattle.ssd_geo.specs.Codewords.{IsCodeword, failed_checks, is_codeword, word
 use Rattle.ssd_geo.specs.Decoding.{decided, decided_after, decode}
 use Rattle.ssd_geo.specs.RowRule.{is_negative}
 use Rattle.ssd_geo.specs.Senses.{hard_value, hard_values}
-use Rattle.complete_runs.proofs.CheckedWords.{failed_checks-codeword}
 use Rattle.complete_runs.proofs.ToldCells.{map_through}
+use Rattle.ssd_geo.proofs.CheckedCodewords.{no_check_fails}
 
 hard_is : (bit : Bool) → is_negative (hard_value bit) ≡ bit
 hard_is true = refl
@@ -29,7 +29,7 @@ pub decode_codeword : (m : BaseMatrix) (limit : ℕ) (sense : List ℕ) → 8 * 
 decode_codeword m limit sense whole of_bits codeword =
     let bits : decided_after m (hard_values sense) 0 ≡ bits_of (word_bits m) sense =
     decided_hard sense ∙ ap (λ (n : ℕ). bits_of n sense) whole in
-    let none : (failed_checks m sense == 0) ≡ true = ap (λ (n : ℕ). n == 0) (failed_checks-codeword m sense codeword) in
+    let none : (failed_checks m sense == 0) ≡ true = ap (λ (n : ℕ). n == 0) (no_check_fails m sense codeword) in
     let test : ℕ → Bool = λ n. is_codeword m (decided_after m (hard_values sense) n) in
     let answer : ℕ → ℕ × List ℕ = λ n. (n, bytes_of (decided_after m (hard_values sense) n)) in
     let passes : is_codeword m (decided_after m (hard_values sense) 0) ≡ true = ap (is_codeword m) bits ∙ none in

@@ -27,12 +27,13 @@ use Rattle.recovery_laws.proofs.Pasts.{IsMadeAt, StepLook, look_is_made_at, step
 use Rattle.recovery_laws.proofs.RecoveredReads.{HasFound, looks_found, plain_is_data}
 use Rattle.recovery_laws.proofs.RowWords.{has_word, rows_have_words}
 use Rattle.recovery_laws.proofs.SettledLadders.{lawful_at, recovered_find}
-use Rattle.serial_laws.proofs.Lists.{same_Some}
 use Rattle.run_laws.specs.FirstSenses.{IsNoAgeing, IsUnagedPast, ReadsBack, WordIsRead}
-use Rattle.run_laws.proofs.CopiedPages.{copies_are_recovered}
+use Rattle.run_laws.proofs.CopiedPages.{copies_are_recovered, look_senses_none}
 use Rattle.run_laws.proofs.FirstLadders.{asks_first, recovers_first}
 use Rattle.run_laws.proofs.FreshCells.{HasFreshCells, told_words_are_fresh}
 use Rattle.run_laws.proofs.LookSenses.{none_sensed}
+use Rattle.std.proofs.lemmas.Bool.{eqb-true}
+use Rattle.std.proofs.lemmas.Option.{same_Some}
 
 -- what a ladder comes to with no sense but its first: it asks, or has recovered a word at rung 0
 abbrev pub KnowsFirst : List ℕ → LadderState → Type 0
@@ -50,19 +51,11 @@ gave_more : (word : List ℕ) (senses : List (List ℕ)) (sense : List ℕ) → 
 gave_more word [] sense gave first = first refl
 gave_more word (older ∷ senses) sense gave first = gave
 
-same_number : (a b : ℕ) → (a == b) ≡ true → a ≡ b
-same_number a b e = grind (arith, nat_tests)
-
 -- what a ladder asks for
 abbrev asked_of : Place × ℤ → LadderState → Place × ℤ
 asked_of other (asks place level) = (place, level)
 asked_of other (recovered rung word) = other
 asked_of other uncorrectable = other
-
--- a look senses nothing
-look_senses_none : (at : ℕ) (kind : Kind) (look : Look) → look_made at kind ≡ Some look → sense_for at kind ≡ None
-look_senses_none at (Kind.Look row found closed) look is = refl
-look_senses_none at kind look is = absurd (cc)
 
 module _ (start : Start) (contents : List (Tag × List ℕ)) (reads : ReadsBack start.base) (due : HasDuePages start) where
   abbrev coding : Coding
@@ -148,7 +141,7 @@ module _ (start : Start) (contents : List (Tag × List ℕ)) (reads : ReadsBack 
             gave_more word (senses_of coding start contents past at) (sensed level (levels_in start.base (page_of coding start contents past place))) before
             (first_gives past tag place level
             (subst (λ (n : ℕ). IsSomeAnd (open_look past tag n) (λ held. IsLawfulSense (ladder_of coding start contents past n) past n place level))
-            (same_number named at e) c) pinned unaged is stood)
+            (eqb-true named at e) c) pinned unaged is stood)
         by_test false e = before
     gave_step past tag kind c pinned unaged is stood before = before
 
@@ -167,7 +160,7 @@ module _ (start : Start) (contents : List (Tag × List ℕ)) (reads : ReadsBack 
             (look_of past at ≡ Some look → word_looked_at coding start contents past look ≡ Some word → GaveFirst word (senses_of coding start contents past at)) →
             GaveFirst word (senses_of coding start contents (entry ∷ past) at)
         by_test true e here older =
-            let same : length past ≡ at = same_number (length past) at e in
+            let same : length past ≡ at = eqb-true (length past) at e in
             by_none (sense_for at entry.kind) _ (senses_of coding start contents past at) (look_senses_none at entry.kind look here)
             (none_sensed (ladder_of coding start contents) coding start contents past at lawful.0 (omega (arith, same)))
         by_test false e here older =

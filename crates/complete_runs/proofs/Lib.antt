@@ -1,7 +1,6 @@
 pub mod AnsweredCalls
 pub mod BlankStarts
 pub mod CallEntries
-pub mod CheckedWords
 pub mod CompleteRuns
 pub mod DieCounts
 pub mod DrainedReplies

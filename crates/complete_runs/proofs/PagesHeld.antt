@@ -18,7 +18,7 @@ use Rattle.ssd_histories.specs.PlainMap.{PlainRow, nothing, plain_of}
 use Rattle.ssd_histories.specs.SerialHistory.{AreServed, SerialState, none_left, serves}
 use Rattle.ssd_histories.specs.Start.{Start, data_of}
 use Rattle.serial_laws.proofs.GrownPasts.{steps_stay}
-use Rattle.serial_laws.proofs.Lists.{IsPairedAt, Pairwise, all_at, not_empty, numbered_at, paired_at, pairs_all, pairs_flip, same_first}
+use Rattle.serial_laws.proofs.Lists.{IsPairedAt, Pairwise, not_empty, paired_at, pairs_all, pairs_flip, same_first}
 use Rattle.serial_laws.proofs.MadeCalls.{HasNoSteps, IsGrownRun}
 use Rattle.serial_laws.proofs.MadeSteps.{IsGrownPast, one_more}
 use Rattle.serial_laws.proofs.NumberedTags.{IsBelow, counts_in, later_tag, numbered_back, numbered_front, numbers_are_below, other_way}
@@ -30,6 +30,7 @@ use Rattle.complete_runs.proofs.FirstSteps.{steps_have}
 use Rattle.complete_runs.proofs.PlainSteps.{call_leaves, plain_by, plain_grown}
 use Rattle.complete_runs.proofs.ReadAnswers.{all_behind}
 use Rattle.complete_runs.proofs.TakenWrites.{IsTaken, TakesAll}
+use Rattle.shared_lemmas.proofs.Lists.{all_at, numbered_at}
 
 -- what a page holds after one more call
 held_more : (count page : ℕ) (held : PlainRow) (calls : List TraceCall) (call : TraceCall) →

@@ -3,7 +3,7 @@
 use Rattle.std.proofs.Common.{◌≡◌, ℕ, ◌/◌, ◌%◌, ◌*◌, ◌+◌, ◌==◌, Bool, true, false, List, [], ◌∷◌, ◌++◌, refl, sym, ap, subst, ◌∙◌, inl, inr, All, eqb-true, eq-eqb}
 use Rattle.std.specs.Prelude.{flat_map, ⊤}
 use Rattle.std.specs.List.{list_all}
-use Rattle.std.proofs.lemmas.Bool.{and_parts, false≢true, true≢false}
+use Rattle.std.proofs.lemmas.Bool.{and_parts, false≢true, true≢false, false_from_ne_true}
 use Rattle.std.proofs.lemmas.List.Elements.{All-head, All-tail}
 use Rattle.std.proofs.lemmas.Nat.{div-add-mod'}
 use Rattle.ssd_formats.specs.TraceText.{content_bytes}
@@ -22,14 +22,13 @@ use Rattle.ssd_histories.specs.Lawful.{is_fault_sense_of}
 use Rattle.ssd_histories.specs.PlainMap.{PlainRow, bytes, nothing, plain_after, plain_of}
 use Rattle.ssd_histories.specs.Rounds.{IsWrite, IsWriteEnd, IsWritePart, has_fault, is_failed_write, is_idle_note, is_note, is_one, is_write_end}
 use Rattle.ssd_histories.specs.Start.{data_of}
-use Rattle.serial_laws.proofs.Lists.{not_true}
 use Rattle.serial_laws.proofs.LookLists.{is_end_kind}
 use Rattle.serial_laws.proofs.MadeSteps.{IsGrownPast, one_more}
-use Rattle.serial_laws.proofs.NumberedTags.{one_tag}
 use Rattle.complete_runs.specs.TraceAnswers.{held_after}
 use Rattle.complete_runs.proofs.KindsOfCalls.{HasKinds, collect_has, one_has, own_has, part_has, parts_has, read_has, refresh_has, refreshes_has}
 use Rattle.complete_runs.proofs.ReadAnswers.{all_behind}
 use Rattle.complete_runs.proofs.TakenWrites.{IsTaken}
+use Rattle.ssd_histories.proofs.SameTags.{one_tag}
 
 -- what a row holds after some steps of a call, in order
 abbrev pub plain_by : List (Tag × List ℕ) → Tag → ℕ → PlainRow → List CallStep → PlainRow
@@ -177,14 +176,14 @@ same_page channels named page same = by_rows (named / channels == page / channel
         ∙ (λ i. row i * channels + same i)
         ∙ div-add-mod' page channels in
         sym (eq-eqb named page one)
-    by_rows false rows = sym (not_true (named == page) (λ one. false≢true (sym rows ∙ same_rows one)))
+    by_rows false rows = sym (false_from_ne_true (named == page) (λ one. false≢true (sym rows ∙ same_rows one)))
       where
         same_rows : (named == page) ≡ true → (named / channels == page / channels) ≡ true
         same_rows one = eq-eqb (named / channels) (page / channels) (ap (λ (n : ℕ). n / channels) (eqb-true named page one))
 
 other_page : (channels named page : ℕ) → (named % channels == page % channels) ≡ false → (named == page) ≡ false
 other_page channels named page differs =
-    not_true (named == page) (λ one. false≢true (sym differs
+    false_from_ne_true (named == page) (λ one. false≢true (sym differs
     ∙ eq-eqb (named % channels) (page % channels) (ap (λ (n : ℕ). n % channels) (eqb-true named page one))))
 
 -- on the channel of a page, the steps of a call leave of its row what the call leaves of the page

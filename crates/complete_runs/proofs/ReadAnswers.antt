@@ -33,12 +33,7 @@ use Rattle.complete_runs.proofs.DrainedReplies.{Calm}
 use Rattle.complete_runs.proofs.FirstSteps.{steps_have}
 use Rattle.complete_runs.proofs.FirstWords.{KnowsFirst, unaged_at}
 use Rattle.complete_runs.proofs.KnownRows.{AreEmpty, KnowsPage, looks_know_pages, no_row_is_lost}
-
--- the reply that one step decides
-one_decides : (option : Option Reply) (reply : Reply) → (elim option as (λ x. Option Reply) [ Some given ↦ Some given | None ↦ None ]) ≡ Some reply →
-    option ≡ Some reply
-one_decides None reply e = e
-one_decides (Some given) reply e = e
+use Rattle.recovery_laws.proofs.EmptyReads.{one_decides}
 
 -- what a ladder that knows a word gives
 known_reply : (count : ℕ) (word : List ℕ) (state : LadderState) (reply : Reply) → KnowsFirst word state →

@@ -23,7 +23,7 @@ use Rattle.ssd_histories.specs.Start.{Start}
 use Rattle.blank_laws.proofs.BlankImages.{blank_images_take_writes}
 use Rattle.history_laws.specs.BlankChannels.{TakesWrites, has_no_bad_by_fault, has_no_weak_block, is_bad_by_fault}
 use Rattle.history_laws.proofs.BlankChannels.{none_is_refused}
-use Rattle.serial_laws.proofs.Lists.{all_at, all_both}
+use Rattle.serial_laws.proofs.Lists.{all_both}
 use Rattle.run_laws.specs.Headline.{Headline}
 use Rattle.run_laws.specs.Runs.{Run, channels_of, data_in}
 use Rattle.complete_runs.specs.BlankRuns.{BeginsBlank}
@@ -32,6 +32,7 @@ use Rattle.complete_runs.specs.UncountedRuns.{CountNone, IsFaultless}
 use Rattle.complete_runs.proofs.BlankStarts.{IsBlankStart, starts_are_blank, starts_of_channels}
 use Rattle.complete_runs.proofs.FaultlessPasts.{uncounted_runs_are_faultless}
 use Rattle.complete_runs.proofs.FirstSteps.{first_has, if_some, on_run, steps_have}
+use Rattle.shared_lemmas.proofs.Lists.{all_at}
 
 -- an entry refuses no write, and no call of a die failed in it
 abbrev pub IsRefused : Kind → Type 0

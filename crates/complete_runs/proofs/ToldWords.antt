@@ -16,10 +16,10 @@ use Rattle.ssd_histories.specs.LastWrites.{IsData}
 use Rattle.recovery_laws.proofs.ReadReplies.{bytes_given}
 use Rattle.recovery_laws.proofs.WordData.{whole_bytes, words_have_data}
 use Rattle.complete_runs.specs.ToldLevels.{ToldLevelsReadBack, ToldPagesAreReadAtOnce}
-use Rattle.complete_runs.proofs.CheckedWords.{failed_checks-codeword, sum_none}
 use Rattle.complete_runs.proofs.FirstSense.{decode_codeword}
 use Rattle.complete_runs.proofs.ToldCells.{sensed-told}
 use Rattle.complete_runs.proofs.PageCodes.{all_found, bytes_again, code_at, code_back, code_long, only, word_small}
+use Rattle.ssd_geo.proofs.CheckedCodewords.{no_check_fails, sum_none}
 
 is_some_of : {A : Type 0} (found : Option A) (x : A) → found ≡ Some x → is_some found ≡ true
 is_some_of found x is = rw is refl
@@ -28,10 +28,10 @@ is_some_of found x is = rw is refl
 none_fail : (sizes : Sizes) (m : BaseMatrix) (word : List ℕ) → ((f : ℕ) → f < sizes.words → IsCodeword m (code_in sizes word f)) → failed_in sizes m word ≡ 0
 none_fail sizes m word codewords =
     sum_none (λ f. failed_checks m (code_in sizes word f)) 0 sizes.words
-    (λ f low high. failed_checks-codeword m (code_in sizes word f) (codewords f (omega arith)))
+    (λ f low high. no_check_fails m (code_in sizes word f) (codewords f (omega arith)))
 
 -- a part is no longer than its codeword
-part_fits : (n m z : ℕ) → (n - m) * z / 8 ≤ n * z / 8
+pub part_fits : (n m z : ℕ) → (n - m) * z / 8 ≤ n * z / 8
 part_fits n m z =
     let shorter : (n - m) * z ≤ n * z = mul-le-mul_right z (omega arith) in
     omega arith

@@ -12,7 +12,6 @@ use Rattle.ssd_geo.specs.declared.trace.Verb.{Verb}
 use Rattle.ssd_histories.specs.CallsInOrder.{AreNumberedAfter, ChannelRun, reply_to}
 use Rattle.ssd_histories.specs.PlainMap.{PlainRow, nothing, plain_in_image, plain_of}
 use Rattle.ssd_histories.specs.Start.{Start}
-use Rattle.serial_laws.proofs.Lists.{all_at}
 use Rattle.serial_laws.proofs.NumberedTags.{numbered_front}
 use Rattle.serial_laws.proofs.OrderedCalls.{cut}
 use Rattle.serial_laws.proofs.ServedChains.{nothing_served}
@@ -33,6 +32,7 @@ use Rattle.complete_runs.proofs.FirstSteps.{on_run}
 use Rattle.complete_runs.proofs.KnownRows.{empty_row}
 use Rattle.complete_runs.proofs.PagesHeld.{AreFoundHeld, FoundHeld, HoldPages, all_found, all_stay, others_differ, taken_before}
 use Rattle.complete_runs.proofs.TakenWrites.{TakesAll, all_channels_take}
+use Rattle.shared_lemmas.proofs.Lists.{all_at}
 
 -- a channel before its first entry
 abbrev unbegun : Start → ChannelRun

@@ -14,8 +14,11 @@ use Rattle.ssd_histories.specs.States.{is_bad}
 use Rattle.ssd_formats.specs.Fields.{is_below}
 use Rattle.ssd_formats.specs.ImageContents.{SavedBlock, are_pages, are_programmed_counts, are_saved_blocks, blocks_of_saved, has_before, is_factory_bad, is_page_word, is_programmed_count, is_saved_block, is_stripe_open, is_sum, may_be, pages_at, saved_block, slots_of_sizes}
 use Rattle.ssd_formats.specs.ImageHead.{Head}
-use Rattle.contents_start.proofs.SavedBlocks.{IsCount}
-use Rattle.contents_end.proofs.Tests.{all_if, below_if, both_true, equal_if, within_if}
+use Rattle.contents_start.proofs.SavedBlocks.{IsCount, has_one_more}
+use Rattle.contents_end.proofs.Tests.{below_if, both_true, equal_if}
+use Rattle.shared_lemmas.proofs.Positions.{all_from}
+use Rattle.contents_start.proofs.BlankContents.{all_true}
+use Rattle.ssd_geo.proofs.Sizes.{is_within_from}
 
 -- what is asked of a superblock, whichever stand before it
 pub record MayStand (head : Head) (channel : ℕ) (cells : List (List BlockCells)) (sb : ℕ) (block : BlockBase) : Type 0 where
@@ -40,7 +43,7 @@ counts_may_stand sizes state sb used (n ∷ counts) before each =
     subst (λ (k : ℕ). IsCount sizes state sb used k n) none (each 0 (omega arith)) in
     let here : (is_programmed_count sizes state sb used (length before) n && is_within 0 sizes.pages n) ≡ true =
     both_true (is_programmed_count sizes state sb used (length before) n) (is_within 0 sizes.pages n) first.programmed
-    (within_if 0 sizes.pages n (omega arith) first.few) in
+    (is_within_from 0 sizes.pages n (omega arith) first.few) in
     ap (λ (b : Bool). b && are_programmed_counts sizes state sb used (before ++ n ∷ []) counts) here
     ∙ counts_may_stand sizes state sb used counts (before ++ n ∷ [])
     (λ die below.
@@ -78,11 +81,7 @@ sum_may_stand head block sum e = by_test (is_stripe_open head.sizes block)
     by_test true = e
     by_test false = refl
 
-all_true : (b1 b2 b3 b4 b5 b6 b7 b8 : Bool) → b1 ≡ true → b2 ≡ true → b3 ≡ true → b4 ≡ true → b5 ≡ true → b6 ≡ true →
-    b7 ≡ true → b8 ≡ true → (b1 && b2 && b3 && b4 && b5 && b6 && b7 && b8) ≡ true
-all_true b1 b2 b3 b4 b5 b6 b7 b8 e1 e2 e3 e4 e5 e6 e7 e8 = rw (e1, e2, e3, e4, e5, e6, e7, e8) refl
-
-not_false : (b : Bool) → b ≡ false → not b ≡ true
+pub not_false : (b : Bool) → b ≡ false → not b ≡ true
 not_false b e = rw e refl
 
 -- a superblock behind those before it
@@ -108,11 +107,11 @@ block_may_stand head channel sum cells before block dies word may frontier victi
     (are_programmed_counts sizes block.state sb block.used [] (map length (map (pages_at sb) cells)))
     (list_all (are_pages (page_cells_of sizes)) (map (pages_at sb) cells))
     (is_sum head block (if is_stripe_open sizes block then sum else []))
-    state (within_if 0 (2 ^ 31) block.erases (omega arith) may.erases) (below_if (2 ^ 32) block.used may.few) may.used
+    state (is_within_from 0 (2 ^ 31) block.erases (omega arith) may.erases) (below_if (2 ^ 32) block.used may.few) may.used
     (equal_if (length (map (pages_at sb) cells)) sizes.dies (length-map cells (pages_at sb) ∙ dies))
     (counts_of_cells head channel cells sb block may)
     (list_all-map (are_pages (page_cells_of sizes)) (pages_at sb) cells
-    ∙ all_if (λ (blocks : List BlockCells). are_pages (page_cells_of sizes) (pages_at sb blocks)) cells [] may.pages)
+    ∙ all_from (λ (blocks : List BlockCells). are_pages (page_cells_of sizes) (pages_at sb blocks)) cells [] may.pages)
     (sum_may_stand head block sum word)
 
 -- a state that at most one superblock has: where one has it, none before does, and it counts for those behind
@@ -127,17 +126,6 @@ one_for_more true true more few = omega (arith, few)
 one_for_more true false more few = omega (arith, few)
 one_for_more false true more few = omega (arith, few)
 one_for_more false false more few = omega (arith, few)
-
-or_false : (b : Bool) → (b || false) ≡ b
-or_false true = refl
-or_false false = refl
-
-has_one_more : (test : BlockBase → Bool) (before : List SavedBlock) (saved : SavedBlock)
-    → has_before test (before ++ saved ∷ []) ≡ (has_before test before || test saved.block)
-has_one_more test before saved =
-    ap (λ (blocks : List BlockBase). list_any test blocks) (map-append (λ (one : SavedBlock). one.block) before (saved ∷ []))
-    ∙ list_any-append test (blocks_of_saved before) (saved.block ∷ [])
-    ∙ ap (λ (b : Bool). has_before test before || b) (or_false (test saved.block))
 
 -- how many superblocks are in such a state, with those before
 abbrev FewIn : (BlockBase → Bool) → List SavedBlock → List BlockBase → Type 0

@@ -10,10 +10,13 @@ use Rattle.ssd_histories.specs.Blocks.{block_at}
 use Rattle.ssd_histories.specs.PageMap.{NameApart, NameWithin, names_slot, names_within, row_at}
 use Rattle.ssd_formats.specs.Fields.{is_below}
 use Rattle.ssd_formats.specs.ImageContents.{are_saved_rows, is_saved_row, may_name}
-use Rattle.ssd_formats.proofs.HeadLaws.{below_is, both_of}
+use Rattle.ssd_formats.proofs.HeadLaws.{below_is}
 use Rattle.contents_start.proofs.SavedRows.{is_used_in}
 use Rattle.run_laws.specs.Serials.{HasSmallSerial}
 use Rattle.contents_end.proofs.Tests.{below_if, both_true, equal_if}
+use Rattle.std.proofs.lemmas.Bool.{and_parts}
+use Rattle.ssd_geo.proofs.Sizes.{whole_from_tests}
+use Rattle.contents_end.proofs.SavableBlocks.{not_false}
 
 -- rows may stand, where each may stand behind those before it
 rows_may_stand : (sizes : Sizes) (blocks : List BlockBase) (rows before : List Row)
@@ -49,12 +52,6 @@ not_before rows slot row other apart named earlier = by_test (names_slot slot (r
     by_test true e = let same : other ≡ row = apart slot other row e named in absurd (omega (arith, earlier, same))
     by_test false e = refl
 
-all_four : (a b c d : Bool) → a ≡ true → b ≡ true → c ≡ true → d ≡ true → (a && b && c && d) ≡ true
-all_four a b c d e1 e2 e3 e4 = rw (e1, e2, e3, e4) refl
-
-not_false : (b : Bool) → b ≡ false → not b ≡ true
-not_false b e = rw e refl
-
 -- what is known of the rows of a page map
 pub record AreNames (sizes : Sizes) (blocks : List BlockBase) (slots : ℕ) (rows : List Row) : Type 0 where
   pub within : NameWithin sizes.superblocks slots rows
@@ -70,7 +67,7 @@ row_may_stand sizes blocks slots rows are row Lost below e = refl
 row_may_stand sizes blocks slots rows are row (Page slot serial) below e =
     let in_map : names_within sizes.superblocks slots (Page slot serial) ≡ true =
     ap (λ (of : Row). names_within sizes.superblocks slots of) (sym e) ∙ are.within row in
-    let both = both_of (nat_lt slot.sb sizes.superblocks) (nat_lt slot.index slots) in_map in
+    let both = and_parts (nat_lt slot.sb sizes.superblocks) (nat_lt slot.index slots) in_map in
     let used : nat_lt slot.index (block_at blocks slot.sb).used ≡ true =
     ap (λ (of : Row). is_used_in blocks of) (sym e) ∙ are.used row below in
     let index : slot.index < slots = below_is slots slot.index both.1 in
@@ -81,7 +78,7 @@ row_may_stand sizes blocks slots rows are row (Page slot serial) below e =
     let named : names_slot slot (row_at rows row) ≡ true = ap (names_slot slot) e ∙ itself in
     let none : list_any (names_slot slot) (take row rows) ≡ false =
     none_before rows slot row (λ other earlier. not_before rows slot row other are.apart named earlier) in
-    all_four (is_below sizes.superblocks slot.sb) (is_below (2 ^ 32) slot.index) (is_below (2 ^ 64) serial)
+    whole_from_tests (is_below sizes.superblocks slot.sb) (is_below (2 ^ 32) slot.index) (is_below (2 ^ 64) serial)
     (may_name blocks (take row rows) slot) both.0 (below_if (2 ^ 32) slot.index few) (below_if (2 ^ 64) serial serial_fits)
     (both_true (nat_lt slot.index (block_at blocks slot.sb).used) (not (list_any (names_slot slot) (take row rows))) used
     (not_false (list_any (names_slot slot) (take row rows)) none))

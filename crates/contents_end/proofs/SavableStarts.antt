@@ -24,13 +24,16 @@ use Rattle.ssd_histories.specs.States.{is_bad}
 use Rattle.ssd_formats.specs.ImageContents.{IsSaved, are_pages, are_saved_blocks, are_saved_rows, blocks_of_saved, is_factory_bad, is_page, is_page_word, saved_block, saved_channel, slots_of_sizes}
 use Rattle.ssd_formats.specs.ImageHead.{Head, IsHead, matrix_of_head}
 use Rattle.ssd_formats.proofs.HeadLaws.{head_is_within_limits}
-use Rattle.contents_start.proofs.SavedBlocks.{IsCount, due_used}
+use Rattle.contents_start.proofs.SavedBlocks.{IsCount}
 use Rattle.contents_start.proofs.SavedRows.{is_used_in}
 use Rattle.contents_end.specs.ContentsEnd.{IsSavable, StartsAreSaved}
 use Rattle.contents_end.proofs.Codewords.{word_passes}
 use Rattle.contents_end.proofs.SavableBlocks.{MayStand, blocks_back, blocks_may_stand}
 use Rattle.contents_end.proofs.SavableRows.{AreNames, rows_are_saved}
-use Rattle.contents_end.proofs.Tests.{all_at, all_if, both_true, equal_if, within_if}
+use Rattle.contents_end.proofs.Tests.{all_at, both_true, equal_if}
+use Rattle.shared_lemmas.proofs.Positions.{all_from}
+use Rattle.ssd_geo.proofs.Sizes.{is_within_from}
+use Rattle.ssd_histories.proofs.UsedSlots.{due_used}
 
 -- a bad superblock is bad whether it is listed or not
 listed_or : (bad listed : Bool) → (listed ≡ true → bad ≡ true) → (bad || not listed) ≡ true
@@ -41,7 +44,7 @@ listed_or false false known = refl
 -- the test of a number of programmed pages
 count_passes : (bad : Bool) (due pages n : ℕ) → due ≤ n → n ≤ pages → (not bad ≡ true → n ≡ due)
     → (if bad then is_within due pages n else (n == due)) ≡ true
-count_passes true due pages n least most exact = within_if due pages n least most
+count_passes true due pages n least most exact = is_within_from due pages n least most
 count_passes false due pages n least most exact = equal_if n due (exact refl)
 
 used_is : (base : ChannelBase) (of : Row) → is_used_in base.blocks of ≡ names_used base of
@@ -91,7 +94,7 @@ module _ (head : Head) (channel : ℕ) (start : Start) (h : IsHead head) (is : I
   pages_of die sb in_dies in_blocks due =
       let cells : ℕ = page_cells_of (sizes_of start.base.shape) in
       let pages : List (List ℤ) = (cells_at_start start die sb).pages in
-      all_if (is_page cells) pages []
+      all_from (is_page cells) pages []
       (λ page below.
       both_true (length (get_or pages page []) == cells) (list_all is_level (get_or pages page []))
       (equal_if (length (get_or pages page [])) cells (due.whole page [] below))

@@ -4,7 +4,7 @@ use Rattle.std.specs.List.{list_all, range_with_len}
 use Rattle.std.proofs.lemmas.Bool.Decides.{nat_tests}
 use Rattle.ssd_geo.specs.Limits.{is_within}
 use Rattle.ssd_formats.specs.Fields.{is_below}
-use Rattle.ssd_formats.proofs.HeadLaws.{both_of}
+use Rattle.std.proofs.lemmas.Bool.{and_parts}
 
 pub equal_if : (m n : ℕ) → m ≡ n → (m == n) ≡ true
 equal_if m n e = grind (arith, nat_tests)
@@ -12,27 +12,16 @@ equal_if m n e = grind (arith, nat_tests)
 pub below_if : (bound n : ℕ) → n < bound → is_below bound n ≡ true
 below_if bound n e = grind (arith, nat_tests)
 
-pub within_if : (low high n : ℕ) → low ≤ n → n ≤ high → is_within low high n ≡ true
-within_if low high n least most = grind (arith, nat_tests)
-
 pub both_true : (a b : Bool) → a ≡ true → b ≡ true → (a && b) ≡ true
 both_true a b e1 e2 = rw (e1, e2) refl
-
--- a list of which each item passes
-pub all_if : {X : Type 0} (test : X → Bool) (xs : List X) (d : X) → ((k : ℕ) → k < length xs → test (get_or xs k d) ≡ true)
-    → list_all test xs ≡ true
-all_if test [] d each = refl
-all_if test (x ∷ xs) d each =
-    ap (λ (b : Bool). b && list_all test xs) (each 0 (omega arith))
-    ∙ all_if test xs d (λ k below. each (suc k) (omega (arith, below)))
 
 -- and one item of such a list
 pub all_at : {X : Type 0} (test : X → Bool) (xs : List X) (d : X) → list_all test xs ≡ true → (k : ℕ) → k < length xs
     → test (get_or xs k d) ≡ true
 all_at test [] d e k below = absurd (omega (arith, below))
-all_at test (x ∷ xs) d e zero below = (both_of (test x) (list_all test xs) e).0
+all_at test (x ∷ xs) d e zero below = (and_parts (test x) (list_all test xs) e).0
 all_at test (x ∷ xs) d e (suc k) below =
-    all_at test xs d (both_of (test x) (list_all test xs) e).1 k (omega (arith, below))
+    all_at test xs d (and_parts (test x) (list_all test xs) e).1 k (omega (arith, below))
 
 -- numbers of a range of which each passes
 pub all_of_range : (test : ℕ → Bool) (n from : ℕ) → ((k : ℕ) → k < n → test (from + k) ≡ true)

@@ -7,7 +7,7 @@ use Rattle.std.proofs.Math.Seq.{take-append-add, take-suc}
 use Rattle.std.specs.Io.KnownBytes.{Appends}
 use Rattle.std.specs.Prelude.{flat_map}
 use Rattle.ssd_geo.specs.Faults.{Rose}
-use Rattle.ssd_io.proofs.WriteSteps.{none_wrote}
+use Rattle.ssd_io.proofs.WriteSteps.{none_wrote, items_at, items_more}
 use Rattle.ssd_io.specs.Writes.{Writes, Wrote}
 use Rattle.contents_file.specs.Saves.{AppendsFirst, HasWriteCause, Puts, Saves}
 use Rattle.contents_file.specs.declared.stop.WriteStop.{WriteStop}
@@ -22,19 +22,8 @@ first_after a b c xs ys zs p q =
     take-append-add xs (ys ++ zs) n ∙ ap (λ l. xs ++ l) (take-append-le n ys zs short) in
     (length xs + n, omega (arith, length-append xs (ys ++ zs), length-append ys zs), subst (Appends a c) (sym same) (Appends-trans a b c xs (take n ys) p q.2))
 
--- the pieces of a list's items: those before one and its own
-pub items_more : {A : Type 0} (piece : A → List ℕ) (xs : List A) (i : ℕ) (d : A) → i < length xs → flat_map piece (take (i + 1) xs) ≡ flat_map piece (take i xs) ++ piece (get_or xs i d)
-items_more piece xs i d within =
-    ap (flat_map piece) (ap (λ n. take n xs) (add-one i) ∙ take-suc xs i d within) ∙ flat_map-append piece (take i xs) (get_or xs i d ∷ []) ∙ ap (λ l. flat_map piece (take i xs) ++ l) (append-nil (piece (get_or xs i d)))
-
--- and those behind it
-items_at : {A : Type 0} (piece : A → List ℕ) (xs : List A) (i : ℕ) (d : A) → i < length xs → flat_map piece xs ≡ flat_map piece (take i xs) ++ (piece (get_or xs i d) ++ flat_map piece (drop (i + 1) xs))
-items_at piece xs i d within =
-    let next : drop i xs ≡ get_or xs i d ∷ drop (i + 1) xs = drop-cons xs i d within ∙ ap (λ n. get_or xs i d ∷ drop n xs) (sym (add-one i)) in
-    ap (flat_map piece) (sym (take-append-drop i xs)) ∙ flat_map-append piece (take i xs) (drop i xs) ∙ ap (λ l. flat_map piece (take i xs) ++ flat_map piece l) next
-
 -- the cause of a stop, where the count was as it was before
-cause_stops : (T U : Type 0) (a b c : ℕ) (stop : WriteStop) → b ≡ a → HasWriteCause {T = U} b c (Err stop) → HasWriteCause {T = T} a c (Err stop)
+pub cause_stops : (T U : Type 0) (a b c : ℕ) (stop : WriteStop) → b ≡ a → HasWriteCause {T = U} b c (Err stop) → HasWriteCause {T = T} a c (Err stop)
 cause_stops T U a b c WriteFault same rose = subst (λ (n : ℕ). Rose n c) same rose
 cause_stops T U a b c (DieFailed die) same stays = stays ∙ same
 

@@ -4,7 +4,8 @@ use Rattle.std.specs.Int.{w8, to_le_bytes}
 use Rattle.std.specs.Prelude.{flat_map}
 use Rattle.std.proofs.lemmas.List.{take_more_set}
 use Rattle.ssd_formats.specs.Fields.{bytes_of_signed}
-use Rattle.contents_file.proofs.PutSteps.{items_more}
+use Rattle.ssd_io.proofs.WriteSteps.{items_more}
+use Rattle.shared_lemmas.proofs.Lists.{taken_front}
 
 -- a number below 256 is its own byte
 pub byte_spelled : (n : ℕ) → n < 2 ^ 8 → to_le_bytes w8 n ≡ n ∷ []
@@ -29,11 +30,3 @@ level_more levels bytes i low high below within so_far spelled =
     ∙ ap (λ (l : List ℕ). l ++ low ∷ high ∷ []) so_far
     ∙ ap (λ (l : List ℕ). flat_map bytes_of_signed (take i levels) ++ l) spelled
     ∙ sym (items_more bytes_of_signed levels i (pos 0) below)
-
--- a list that was written over all of another
-taken_front : {A : Type 0} (xs ys : List A) → take (length xs) (xs ++ ys) ≡ xs
-taken_front [] ys = refl
-taken_front (x ∷ xs) ys = ap (λ l. x ∷ l) (taken_front xs ys)
-
-pub written_whole : {A : Type 0} (n : ℕ) (xs ys : List A) → length xs ≡ n → take n (xs ++ drop (length xs) ys) ≡ xs
-written_whole n xs ys all = ap (λ (k : ℕ). take k (xs ++ drop (length xs) ys)) (sym all) ∙ taken_front xs (drop (length xs) ys)

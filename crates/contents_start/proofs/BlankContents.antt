@@ -17,12 +17,10 @@ use Rattle.ssd_formats.specs.ImageHead.{Head}
 use Rattle.ssd_formats.proofs.HeadLaws.{head_is_within_limits}
 use Rattle.channel_base.proofs.BlankChannels.{blank_block_of, blank_state, none_used}
 use Rattle.contents_start.specs.ContentsStart.{BlankContentsAreSaved}
+use Rattle.std.proofs.lemmas.Bool.{eq-eqb}
 
 zero_within : (high : ℕ) → is_within 0 high 0 ≡ true
 zero_within high = grind (arith, nat_tests)
-
-equal_if : (m n : ℕ) → m ≡ n → (m == n) ≡ true
-equal_if m n e = grind (arith, nat_tests)
 
 -- no page is due in a superblock without a used slot
 no_count : (sizes : Sizes) (listed : Bool) (sb die : ℕ) → 2 ≤ sizes.dies →
@@ -59,7 +57,7 @@ no_sum_is : (head : Head) (listed : Bool) → is_sum head (record { state = blan
 no_sum_is head true = refl
 no_sum_is head false = refl
 
-all_true : (b1 b2 b3 b4 b5 b6 b7 b8 : Bool) → b1 ≡ true → b2 ≡ true → b3 ≡ true → b4 ≡ true → b5 ≡ true → b6 ≡ true →
+pub all_true : (b1 b2 b3 b4 b5 b6 b7 b8 : Bool) → b1 ≡ true → b2 ≡ true → b3 ≡ true → b4 ≡ true → b5 ≡ true → b6 ≡ true →
     b7 ≡ true → b8 ≡ true → (b1 && b2 && b3 && b4 && b5 && b6 && b7 && b8) ≡ true
 all_true b1 b2 b3 b4 b5 b6 b7 b8 e1 e2 e3 e4 e5 e6 e7 e8 = rw (e1, e2, e3, e4, e5, e6, e7, e8) refl
 
@@ -75,7 +73,7 @@ blank_is_saved head channel before many =
     (list_all (are_pages (page_cells_of sizes)) (no_pages sizes.dies)) (is_sum head (blank_block_of head channel sb) [])
     (may_stand listed (has_before is_frontier_block before) (has_before is_victim_block before))
     (zero_within (2 ^ 31)) refl (none_used (slots_of_sizes sizes) listed)
-    (equal_if (length (no_pages sizes.dies)) sizes.dies (length-replicate sizes.dies []))
+    (eq-eqb (length (no_pages sizes.dies)) sizes.dies (length-replicate sizes.dies []))
     (no_counts sizes listed sb sizes.dies [] many) (pages_right (page_cells_of sizes) sizes.dies) (no_sum_is head listed)
 
 blanks_are_saved : (head : Head) (channel n from : ℕ) (before : List SavedBlock) → 2 ≤ head.sizes.dies → length before ≡ from →

@@ -11,7 +11,8 @@ use Rattle.ssd_geo.specs.declared.weak.Weak.{Weak}
 use Rattle.ssd_histories.specs.Standing.{HasFields}
 use Rattle.ssd_formats.specs.ImageContents.{ChannelImage, IsBaseOf}
 use Rattle.ssd_formats.specs.ImageHead.{Head, IsHead, are_weak_records, comes_after, is_weak_before, is_weak_record, matrix_of_head}
-use Rattle.ssd_formats.proofs.HeadLaws.{below_is, both_of, within_is}
+use Rattle.ssd_formats.proofs.HeadLaws.{below_is, within_is}
+use Rattle.std.proofs.lemmas.Bool.{and_parts}
 
 -- its matrix
 abbrev matrix_by : Sizes → List ℤ → BaseMatrix
@@ -50,8 +51,8 @@ weak_within : (sizes : Sizes) (before weak : List Weak) → are_weak_records siz
     list_all (is_weak_in sizes) weak ≡ true
 weak_within sizes before [] e = refl
 weak_within sizes before (of ∷ weak) e =
-    let both = both_of (is_weak_record sizes before of) (are_weak_records sizes (before ++ of ∷ []) weak) e in
-    let within = both_of (is_weak_in sizes of) (comes_after is_weak_before before of) both.0 in
+    let both = and_parts (is_weak_record sizes before of) (are_weak_records sizes (before ++ of ∷ []) weak) e in
+    let within = and_parts (is_weak_in sizes of) (comes_after is_weak_before before of) both.0 in
     ap (λ (b : Bool). b && list_all (is_weak_in sizes) weak) within.0
     ∙ weak_within sizes (before ++ of ∷ []) weak both.1
 

@@ -14,9 +14,8 @@ use Rattle.ssd_geo.specs.declared.superblock.SbState.{SbState}
 use Rattle.ssd_histories.specs.States.{is_bad}
 use Rattle.ssd_formats.specs.ImageContents.{ChannelImage, IsSaved, SavedBlock, are_pages, cells_of_block, cells_of_saved, is_page, is_programmed_count}
 use Rattle.ssd_formats.specs.ImageHead.{Head}
-use Rattle.ssd_formats.proofs.ContentsLaws.{equal_is}
-use Rattle.ssd_formats.proofs.HeadLaws.{both_of}
 use Rattle.contents_start.proofs.SavedBlocks.{count_at, part_at}
+use Rattle.std.proofs.lemmas.Bool.{and_parts, eqb-true}
 
 -- a superblock of an image without pages
 abbrev pub no_block : SavedBlock
@@ -39,28 +38,28 @@ at_least_due due pages n e = grind (arith, nat_tests)
 
 count_low : (bad : Bool) (due pages n : ℕ) → (if bad then is_within due pages n else (n == due)) ≡ true → due ≤ n
 count_low true due pages n e = at_least_due due pages n e
-count_low false due pages n e = omega (arith, equal_is n due e)
+count_low false due pages n e = omega (arith, eqb-true n due e)
 
 count_exact : (bad : Bool) (due pages n : ℕ) → (if bad then is_within due pages n else (n == due)) ≡ true → not bad ≡ true → n ≡ due
 count_exact true due pages n e sound = absurd (cc)
-count_exact false due pages n e sound = equal_is n due e
+count_exact false due pages n e sound = eqb-true n due e
 
 -- each page has a level for each cell
 pages_whole : (cells : ℕ) (pages : List (List ℤ)) → are_pages cells pages ≡ true → All (λ (levels : List ℤ). length levels ≡ cells) pages
 pages_whole cells [] e = All-nil (λ (levels : List ℤ). length levels ≡ cells)
 pages_whole cells (page ∷ pages) e =
-    let both = both_of (is_page cells page) (are_pages cells pages) e in
+    let both = and_parts (is_page cells page) (are_pages cells pages) e in
     All-cons (λ (levels : List ℤ). length levels ≡ cells) page pages
-    (equal_is (length page) cells (both_of (length page == cells) (list_all is_level page) both.0).0)
+    (eqb-true (length page) cells (and_parts (length page == cells) (list_all is_level page) both.0).0)
     (pages_whole cells pages both.1)
 
 dies_whole : (cells : ℕ) (dies : List (List (List ℤ))) → list_all (are_pages cells) dies ≡ true → (die : ℕ)
     → All (λ (levels : List ℤ). length levels ≡ cells) (get_or dies die [])
 dies_whole cells [] e die = All-nil (λ (levels : List ℤ). length levels ≡ cells)
 dies_whole cells (pages ∷ dies) e zero =
-    pages_whole cells pages (both_of (are_pages cells pages) (list_all (are_pages cells) dies) e).0
+    pages_whole cells pages (and_parts (are_pages cells pages) (list_all (are_pages cells) dies) e).0
 dies_whole cells (pages ∷ dies) e (suc die) =
-    dies_whole cells dies (both_of (are_pages cells pages) (list_all (are_pages cells) dies) e).1 die
+    dies_whole cells dies (and_parts (are_pages cells pages) (list_all (are_pages cells) dies) e).1 die
 
 -- what is known of a block of a die
 pub record HasDuePages (sizes : Sizes) (die sb : ℕ) (block : BlockBase) (cells : BlockCells) : Type 0 where

@@ -1,7 +1,7 @@
 -- What is known of the rows of contents that have a spelling: those that name slots name used ones, and no two name one slot.
 use Rattle.std.proofs.Common.{◌≡◌, refl, ap, sym, ◌∙◌, ℕ, zero, suc, ◌^◌, ◌<◌, ◌≤◌, ◌&&◌, ◌||◌, nat_lt, not, Bool, true, false, List, [], ◌∷◌, ◌++◌, take, inl, inr, arith, append-nil, append_assoc}
 use Rattle.std.specs.List.{list_any}
-use Rattle.std.proofs.lemmas.Bool.{cases_lt}
+use Rattle.std.proofs.lemmas.Bool.{cases_lt, lt-ltb, and_parts, ltb-true, not-true, eqb-true}
 use Rattle.std.proofs.lemmas.Bool.Decides.{nat_tests}
 use Rattle.ssd_geo.specs.Limits.{Sizes}
 use Rattle.ssd_geo.specs.declared.base.BlockBase.{BlockBase}
@@ -12,9 +12,8 @@ use Rattle.ssd_histories.specs.Blocks.{block_at}
 use Rattle.ssd_histories.specs.PageMap.{NameApart, NameWithin, is_slot, names_slot, names_within, row_at}
 use Rattle.ssd_formats.specs.Fields.{is_below}
 use Rattle.ssd_formats.specs.ImageContents.{are_saved_rows, is_saved_row, may_name}
-use Rattle.ssd_formats.proofs.ContentsLaws.{equal_is}
-use Rattle.ssd_formats.proofs.HeadLaws.{both_of}
 use Rattle.ssd_formats.proofs.SpelledHeads.{never}
+use Rattle.ssd_histories.proofs.SameSlots.{slots_agree}
 
 -- each row may stand behind those before it
 pub saved_row_at : (sizes : Sizes) (blocks : List BlockBase) (rows before : List Row)
@@ -22,10 +21,10 @@ pub saved_row_at : (sizes : Sizes) (blocks : List BlockBase) (rows before : List
     → is_saved_row sizes blocks (before ++ take row rows) (row_at rows row) ≡ true
 saved_row_at sizes blocks [] before e row = refl
 saved_row_at sizes blocks (of ∷ rows) before e zero =
-    let both = both_of (is_saved_row sizes blocks before of) (are_saved_rows sizes blocks (before ++ of ∷ []) rows) e in
+    let both = and_parts (is_saved_row sizes blocks before of) (are_saved_rows sizes blocks (before ++ of ∷ []) rows) e in
     ap (λ (earlier : List Row). is_saved_row sizes blocks earlier of) (append-nil before) ∙ both.0
 saved_row_at sizes blocks (of ∷ rows) before e (suc row) =
-    let both = both_of (is_saved_row sizes blocks before of) (are_saved_rows sizes blocks (before ++ of ∷ []) rows) e in
+    let both = and_parts (is_saved_row sizes blocks before of) (are_saved_rows sizes blocks (before ++ of ∷ []) rows) e in
     ap (λ (earlier : List Row). is_saved_row sizes blocks earlier (row_at rows row))
     (sym (append_assoc before (of ∷ []) (take row rows)))
     ∙ saved_row_at sizes blocks rows (before ++ of ∷ []) both.1 row
@@ -36,16 +35,6 @@ pub record NamesUsed (sizes : Sizes) (blocks : List BlockBase) (before : List Ro
   pub used : slot.index < (block_at blocks slot.sb).used
   pub new : list_any (names_slot slot) before ≡ false
 
-lt_is : (m n : ℕ) → nat_lt m n ≡ true → m < n
-lt_is m n e = grind (arith, nat_tests)
-
-lt_if : (m n : ℕ) → m < n → nat_lt m n ≡ true
-lt_if m n e = grind (arith, nat_tests)
-
-not_true : (b : Bool) → not b ≡ true → b ≡ false
-not_true true e = absurd (cc)
-not_true false e = refl
-
 pub names_used_slot : (sizes : Sizes) (blocks : List BlockBase) (before : List Row) (slot : Slot) (serial : ℕ)
     → is_saved_row sizes blocks before (Page slot serial) ≡ true → NamesUsed sizes blocks before slot
 names_used_slot sizes blocks before slot serial e =
@@ -54,14 +43,14 @@ names_used_slot sizes blocks before slot serial e =
     let t3 : Bool = is_below (2 ^ 64) serial in
     let used : Bool = nat_lt slot.index (block_at blocks slot.sb).used in
     let named : Bool = list_any (names_slot slot) before in
-    let e4 = both_of (t1 && t2 && t3) (may_name blocks before slot) e in
-    let e3 = both_of (t1 && t2) t3 e4.0 in
-    let e2 = both_of t1 t2 e3.0 in
-    let may = both_of used (not named) e4.1 in
+    let e4 = and_parts (t1 && t2 && t3) (may_name blocks before slot) e in
+    let e3 = and_parts (t1 && t2) t3 e4.0 in
+    let e2 = and_parts t1 t2 e3.0 in
+    let may = and_parts used (not named) e4.1 in
     record {
-      within = lt_is slot.sb sizes.superblocks e2.0;
-      used = lt_is slot.index (block_at blocks slot.sb).used may.0;
-      new = not_true named may.1;
+      within = ltb-true slot.sb sizes.superblocks e2.0;
+      used = ltb-true slot.index (block_at blocks slot.sb).used may.0;
+      new = not-true named may.1;
     }
 
 -- so the rows name slots of the channel
@@ -73,8 +62,8 @@ within_if_used sizes blocks slots fits before Lost e = refl
 within_if_used sizes blocks slots fits before (Page slot serial) e =
     let known = names_used_slot sizes blocks before slot serial e in
     let low : slot.index < slots = omega (arith, known.used, fits slot.sb) in
-    ap (λ (b : Bool). b && nat_lt slot.index slots) (lt_if slot.sb sizes.superblocks known.within)
-    ∙ lt_if slot.index slots low
+    ap (λ (b : Bool). b && nat_lt slot.index slots) (lt-ltb slot.sb sizes.superblocks known.within)
+    ∙ lt-ltb slot.index slots low
 
 pub rows_name_within : (sizes : Sizes) (blocks : List BlockBase) (rows : List Row) (slots : ℕ)
     → ((sb : ℕ) → (block_at blocks sb).used ≤ slots) → are_saved_rows sizes blocks [] rows ≡ true
@@ -93,13 +82,7 @@ pub row_is_used : (sizes : Sizes) (blocks : List BlockBase) (before : List Row) 
 row_is_used sizes blocks before Empty e = refl
 row_is_used sizes blocks before Lost e = refl
 row_is_used sizes blocks before (Page slot serial) e =
-    lt_if slot.index (block_at blocks slot.sb).used (names_used_slot sizes blocks before slot serial e).used
-
--- a slot that a row names is the slot
-slots_agree : (slot other : Slot) → is_slot slot other ≡ true → slot ≡ other
-slots_agree slot other e =
-    let both = both_of _ _ e in
-    λ i. record { sb = equal_is slot.sb other.sb both.0 i; index = equal_is slot.index other.index both.1 i }
+    lt-ltb slot.index (block_at blocks slot.sb).used (names_used_slot sizes blocks before slot serial e).used
 
 -- a row before another is among those before it
 named_before : (rows : List Row) (slot : Slot) (row other : ℕ) → row < other → names_slot slot (row_at rows row) ≡ true

@@ -14,9 +14,8 @@ use Rattle.ssd_geo.specs.declared.base.BlockBase.{BlockBase}
 use Rattle.ssd_geo.proofs.FoundWords.{even_rows}
 use Rattle.ssd_formats.specs.ImageContents.{SavedBlock, are_saved_blocks, blocks_of_saved, is_page_word, is_saved_block, is_stripe_open, is_sum}
 use Rattle.ssd_formats.specs.ImageHead.{Head, matrix_of_head}
-use Rattle.ssd_formats.proofs.ContentsLaws.{equal_is}
-use Rattle.ssd_formats.proofs.HeadLaws.{both_of}
 use Rattle.contents_start.proofs.SavedBlocks.{IsPart, part_of}
+use Rattle.std.proofs.lemmas.Bool.{and_parts, eqb-true}
 
 -- the sum of the first superblock with an open stripe, or another list
 abbrev pub sum_or : Sizes → List ℕ → List SavedBlock → List ℕ
@@ -30,7 +29,7 @@ pub on_sum : (head : Head) (channel : ℕ) (other : List ℕ) (P : List ℕ → 
     → (blocks before : List SavedBlock) → are_saved_blocks head channel before blocks ≡ true → P (sum_or head.sizes other blocks)
 on_sum head channel other P of_other of_open [] before e = of_other
 on_sum head channel other P of_other of_open (saved ∷ blocks) before e =
-    let both = both_of (is_saved_block head channel before saved) (are_saved_blocks head channel (before ++ saved ∷ []) blocks) e in
+    let both = and_parts (is_saved_block head channel before saved) (are_saved_blocks head channel (before ++ saved ∷ []) blocks) e in
     by_test (is_stripe_open head.sizes saved.block) refl (of_open before saved (part_of head channel before saved both.0))
     (on_sum head channel other P of_other of_open blocks (before ++ saved ∷ []) both.1)
   where
@@ -51,8 +50,8 @@ sum_passes head block sum is_open e =
 pub sum_is_long : (head : Head) (channel : ℕ) (before : List SavedBlock) (saved : SavedBlock) → IsPart head channel before saved
     → is_stripe_open head.sizes saved.block ≡ true → length saved.sum ≡ word_bytes_of head.sizes
 sum_is_long head channel before saved part is_open =
-    equal_is (length saved.sum) (word_bytes_of head.sizes)
-    (both_of (length saved.sum == word_bytes_of head.sizes) (is_page_word head saved.sum)
+    eqb-true (length saved.sum) (word_bytes_of head.sizes)
+    (and_parts (length saved.sum == word_bytes_of head.sizes) (is_page_word head saved.sum)
     (sum_passes head saved.block saved.sum is_open part.sum)).0
 
 -- what a test of all numbers of a range says of one
@@ -60,11 +59,11 @@ in_range : (test : ℕ → Bool) (n from k : ℕ) → list_all test (range_with_
 in_range test zero from k e below = absurd (omega (arith, below))
 in_range test (suc n) from zero e below =
     let here : from + 0 ≡ from = omega arith in
-    ap test here ∙ (both_of (test from) (list_all test (range_with_len (from + 1) n)) e).0
+    ap test here ∙ (and_parts (test from) (list_all test (range_with_len (from + 1) n)) e).0
 in_range test (suc n) from (suc k) e below =
     let there : from + suc k ≡ from + 1 + k = omega arith in
     ap test there
-    ∙ in_range test n (from + 1) k (both_of (test from) (list_all test (range_with_len (from + 1) n)) e).1 (omega (arith, below))
+    ∙ in_range test n (from + 1) k (and_parts (test from) (list_all test (range_with_len (from + 1) n)) e).1 (omega (arith, below))
 
 pub sum_has_codewords : (head : Head) (channel : ℕ) (before : List SavedBlock) (saved : SavedBlock) → IsPart head channel before saved
     → is_stripe_open head.sizes saved.block ≡ true → (f : ℕ) → f < head.sizes.words
@@ -72,7 +71,7 @@ pub sum_has_codewords : (head : Head) (channel : ℕ) (before : List SavedBlock)
 sum_has_codewords head channel before saved part is_open f below =
     let m : BaseMatrix = matrix_of_head head in
     let passes : List ℕ → Bool = λ code. failed_checks m code == 0 in
-    let checked = both_of (length saved.sum == word_bytes_of head.sizes) (is_page_word head saved.sum)
+    let checked = and_parts (length saved.sum == word_bytes_of head.sizes) (is_page_word head saved.sum)
     (sum_passes head saved.block saved.sum is_open part.sum) in
     let each : list_all (λ (k : ℕ). passes (code_in head.sizes saved.sum k)) (range_with_len 0 head.sizes.words) ≡ true =
     sym (list_all-map passes (code_in head.sizes saved.sum) (range_with_len 0 head.sizes.words)) ∙ checked.1 in

@@ -47,9 +47,12 @@ fn looked(alloc: Global, row: u32) -> Result<LookAnswer, Fail>
     let Ok(answer) = channel.look(tag, row) else {
         return Err("no room".into());
     };
-    let (dies, history) = channel.finish();
+    let (dies, history, parts) = channel.finish();
     if dies.len() != 3 || history.is_empty() {
         return Err("no entry".into());
+    }
+    if parts.rows.len() != ROW_COUNT as usize {
+        return Err("a row is missing".into());
     }
     Ok(answer)
 }

@@ -3,7 +3,7 @@ use Rattle.std.proofs.Common.{ℕ, suc, ◌≡◌, ◌+◌, ◌-◌, ◌%◌, �
 use Rattle.std.specs.Prelude.{Err}
 use Rattle.std.proofs.lemmas.List.{append-nil, length-map}
 use Rattle.std.proofs.lemmas.List.Elements.{All-head, All-tail}
-use Rattle.std.proofs.lemmas.Option.{slice_get_within}
+use Rattle.std.proofs.lemmas.Option.{slice_get_within, same_Some}
 use Rattle.chan_calls.specs.Workers.{WorkerState}
 use Rattle.ctl.proofs.StandingChannels.{keeps_itself}
 use Rattle.ctl.specs.Asked.{HintsFit, IsPageOf}
@@ -14,7 +14,7 @@ use Rattle.ctl.specs.Seen.{SeenChannel, pasts_of}
 use Rattle.ctl.specs.Served.{AreStanding, KeepRooms, KeepsRoom}
 use Rattle.run_laws.specs.ServedRuns.{DrainsTo, RefreshesOn, faults, finds_none, has_taken_all, takes}
 use Rattle.run_laws.specs.StoppedRuns.{StopsInDrain, goes_on, stops}
-use Rattle.serial_laws.proofs.Lists.{IsItemAt, item_at, same_Some}
+use Rattle.serial_laws.proofs.Lists.{IsItemAt, item_at}
 use Rattle.ssd_geo.specs.declared.entry.Entry.{Entry}
 use Rattle.ssd_geo.specs.declared.reply.RefreshReply.{RefreshReply}
 use Rattle.ssd_geo.specs.declared.reply.Reply.{Reply}

@@ -4,7 +4,7 @@ use Rattle.std.proofs.Common.{ℕ, ◌≡◌, ◌%◌, ◌<◌, ◌&&◌, Bool, 
 use Rattle.std.specs.Prelude.{IsErrAnd, IsFalse, Result, Ok, Err, nat_lt, if◌then◌else◌, option_map, slice_get, slice_set}
 use Rattle.std.proofs.lemmas.List.{set-get_or}
 use Rattle.std.proofs.lemmas.List.Elements.{All-append, All-cons, All-nil}
-use Rattle.std.proofs.lemmas.Option.{get_or_from_slice_get, slice_get-map, slice_get_within}
+use Rattle.std.proofs.lemmas.Option.{get_or_from_slice_get, slice_get-map, slice_get_within, same_Some}
 use Rattle.chan_calls.specs.Workers.{WorkerState}
 use Rattle.ctl.specs.Asked.{FitsDrive, HintsFit, IsPageOf, refreshes}
 use Rattle.ctl.specs.BrokenOff.{IsBrokenOffAs, IsBrokenOffOnOne}
@@ -14,7 +14,7 @@ use Rattle.ctl.specs.Seen.{SeenChannel, pasts_of}
 use Rattle.ctl.specs.Served.{AreStanding, HasBrokenOff, IsServed, IsStopped, MayServe, Serves}
 use Rattle.run_laws.specs.ServedRuns.{IsServedAs, IsServedOnOne, hints_after}
 use Rattle.run_laws.specs.StoppedRuns.{IsStoppedAs, IsStoppedOnOne}
-use Rattle.serial_laws.proofs.Lists.{IsItemAt, item_at, same_Some}
+use Rattle.serial_laws.proofs.Lists.{IsItemAt, item_at}
 use Rattle.ssd_formats.specs.RunText.{is_hinted}
 use Rattle.ssd_geo.specs.declared.entry.Entry.{Entry}
 use Rattle.ssd_geo.specs.declared.reply.RefreshReply.{RefreshReply}

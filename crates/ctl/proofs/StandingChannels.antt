@@ -4,7 +4,7 @@ use Rattle.std.proofs.Common.{ℕ, ◌≡◌, ◌/◌, ◌%◌, ◌<◌, ◌≤�
 use Rattle.std.specs.Prelude.{slice_get, slice_set, option_map}
 use Rattle.std.proofs.lemmas.List.{map-set}
 use Rattle.std.proofs.Math.Seq.{map-set_same}
-use Rattle.std.proofs.lemmas.Option.{get_or_from_slice_get, slice_get-map, slice_get_within}
+use Rattle.std.proofs.lemmas.Option.{get_or_from_slice_get, slice_get-map, slice_get_within, same_Some}
 use Rattle.chan_calls.specs.Workers.{WorkerState, WorksFor}
 use Rattle.ctl.specs.Asked.{HasOwnData}
 use Rattle.ctl.specs.BrokenOff.{IsBrokenOffBy, IsBrokenOffOnOne}
@@ -17,7 +17,7 @@ use Rattle.run_laws.proofs.ShortCalls.{replies_short, stops_short}
 use Rattle.run_laws.specs.RepliedCalls.{HasRefreshed, IsRepliedBy, WasRefreshed}
 use Rattle.run_laws.specs.ServedRuns.{IsServedOnOne, LeadsOn, RefreshesOn, channel_of, hints_after}
 use Rattle.run_laws.specs.StoppedRuns.{HasNoRoomToLook, IsStoppedBy, IsStoppedOnOne}
-use Rattle.serial_laws.proofs.Lists.{IsItemAt, get_set_other, item_at, same_Some}
+use Rattle.serial_laws.proofs.Lists.{IsItemAt, get_set_other, item_at}
 use Rattle.ssd_geo.specs.declared.entry.Entry.{Entry}
 use Rattle.ssd_geo.specs.declared.reply.RefreshReply.{RefreshReply}
 use Rattle.ssd_geo.specs.declared.reply.Reply.{Reply}

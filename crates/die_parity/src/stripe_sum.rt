@@ -48,4 +48,12 @@ impl StripeSum {
     {
         &self.sum
     }
+
+    /// Gives the sum's bytes back.
+    pub fn into_bytes(self) -> Vec<u8>
+        ensures { result.items ≡ self }
+    {
+        let StripeSum { sum } = self;
+        sum
+    }
 }

@@ -44,7 +44,7 @@ fn a_stripe_has_its_words_and_their_sum(rt: HostRuntime) -> Result<(), Fail> {
     assert_eq!(rt; sense(&mut dies, PARITY, 0)?, SUM);
     assert_eq!(rt; sense(&mut dies, BLANK_PLACE, 0)?, ONES);
     assert_eq!(rt; dies.shape().dies, 3);
-    assert_eq!(rt; dies.into_dies().len(), 3);
+    assert_eq!(rt; dies.into_parts().0.len(), 3);
     Ok(())
 }
 
@@ -89,7 +89,7 @@ fn a_fault_of_the_paritys_die_leaves_the_word(rt: HostRuntime) -> Result<(), Fai
     age(&mut dies, 1, 150)?;
     assert_eq!(rt; sense(&mut dies, SECOND_PLACE, 0)?, SECOND);
     assert_eq!(rt; dies.shape().dies, 3);
-    assert_eq!(rt; dies.into_dies().len(), 3);
+    assert_eq!(rt; dies.into_parts().0.len(), 3);
     Ok(())
 }
 

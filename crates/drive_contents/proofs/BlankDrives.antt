@@ -20,8 +20,10 @@ use Rattle.ssd_formats.specs.ImageContents.{ChannelImage, IsBaseOf, IsSaved, bla
 use Rattle.ssd_formats.specs.ImageHead.{Head, IsHead, head_of}
 use Rattle.ssd_geo.specs.declared.base.ChannelBase.{ChannelBase}
 use Rattle.ssd_geo.specs.declared.head.ImageHead.{ImageHead}
-use Rattle.drive_contents.proofs.LoadSteps.{at_the_end, in_front_of}
+use Rattle.drive_contents.proofs.LoadSteps.{at_the_end}
+use Rattle.drive_contents.proofs.Pieces.{same_of}
 use Rattle.drive_contents.specs.LoadedDrive.{AreBlankBelow, AreOfDrive}
+use Rattle.shared_lemmas.proofs.Lists.{in_front_of}
 
 -- ---- the bases
 
@@ -32,9 +34,6 @@ none_blank head bases none = record {
       let low : channel < length bases = slice_get_within bases channel base at in
       absurd (omega (arith, low, ap (λ (all : List ChannelBase). length all) none));
 }
-
-same_of : {A : Type 0} (x y : A) → ◌≡◌ {A = Option A} (Some x) (Some y) → x ≡ y
-same_of x y same = cc
 
 -- one more
 one_more_blank : (head : Head) (count : ℕ) (bases : List ChannelBase) (base : ChannelBase) → AreBlankBelow head count bases

@@ -25,6 +25,7 @@ use Rattle.ssd_geo.specs.declared.head.ImageHead.{ImageHead}
 use Rattle.ssd_io.specs.Told.{IsTold}
 use Rattle.drive_contents.specs.LoadedDrive.{AreLoadedBelow, AreReadyFrom, ChangesChannel}
 use Rattle.drive_contents.proofs.Pieces.{all_become, part_before, same_of}
+use Rattle.shared_lemmas.proofs.Lists.{in_front_of}
 
 -- the channels of an image, one after the other
 pub channels_more : (head : Head) (n m channel : ℕ) (before : List ChannelImage) (rest next : Rest) (x : ChannelImage) → n ≡ suc m
@@ -46,12 +47,6 @@ pub channels_end : (head : Head) (n : ℕ) (before : List ChannelImage) (rest : 
     → read_channels head n before rest ≡ Ok (before, rest)
 unfolding read_channels
 channels_end head n before rest none = rw none refl
-
--- a list with one more item at its end
-pub in_front_of : {A : Type 0} (xs ys : List A) (k : ℕ) → k < length xs → slice_get (xs ++ ys) k ≡ slice_get xs k
-in_front_of [] ys k below = absurd (omega (arith, below))
-in_front_of (x ∷ xs) ys zero below = refl
-in_front_of (x ∷ xs) ys (suc k) below = in_front_of xs ys k (omega (arith, below))
 
 pub at_the_end : {A : Type 0} (xs : List A) (y : A) (k : ℕ) → length xs ≡ k → slice_get (xs ++ y ∷ []) k ≡ Some y
 at_the_end [] y zero here = refl

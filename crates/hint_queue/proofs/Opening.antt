@@ -11,7 +11,8 @@ use Rattle.hint_queue.specs.declared.view.Noted.{Noted}
 use Rattle.hint_queue.specs.declared.view.Part.{Part}
 use Rattle.hint_queue.specs.declared.view.View.{View}
 use Rattle.hint_queue.specs.declared.view.View.TheVariants.{New, Deals, Has}
-use Rattle.hint_queue.proofs.Seats.{each_set, fits_map, last_or_before, only_new}
+use Rattle.hint_queue.proofs.Seats.{each_set, fits_map, only_new}
+use Rattle.shared_lemmas.proofs.Lists.{last_or_before}
 
 pub begins : IsKept [] (New ∷ [])
 begins = inl (refl, refl)

@@ -17,14 +17,6 @@ each_set {A} F views id changed mine others seat view e =
     (λ (t : (seat ≢ id) × (get_elem? views seat ≡ some view)). others seat view t.0 t.1)
     (at_set views id seat changed view e)
 
--- what stands in a longer list stands in the list or is the last
-pub last_or_before : {A : Type 0} (l : List A) (a b : A) (j : ℕ) → get_elem? (l ++ a ∷ []) j ≡ some b → (get_elem? l j ≡ some b) ⊎ ((j ≡ length l) × (a ≡ b))
-last_or_before [] a b zero e = inr (refl, some-injective a b e)
-last_or_before [] a b (suc j) e = absurd (some-ne-none b (sym e))
-last_or_before (x ∷ xs) a b zero e = inl e
-last_or_before {A} (x ∷ xs) a b (suc j) e =
-    ⊎_elim (λ (t : get_elem? xs j ≡ some b). inl t) (λ (t : (j ≡ length xs) × (a ≡ b)). inr (ap suc t.0, t.1)) (last_or_before xs a b j e)
-
 pub only_new : (view : View) (id : ℕ) → get_elem? (New ∷ []) id ≡ some view → (id ≡ 0) × (view ≡ New)
 only_new view zero e = (refl, sym (some-injective New view e))
 only_new view (suc id) e = absurd (some-ne-none view (sym e))

@@ -14,7 +14,8 @@ use Rattle.atomic_table.proofs.Lists.{set_else}
 use Rattle.hint_queue.specs.Counts.{AreBelow, FitsTally, IsCounted, Looks, Settles, Teller, Tells, all_times, first_tally, no_tally, one_share, seeing, share_left, share_right, telling, times, united}
 use Rattle.hint_queue.specs.declared.counts.Sight.{Sight}
 use Rattle.hint_queue.specs.declared.counts.Tally.{Tally}
-use Rattle.hint_queue.proofs.Seats.{each_set, last_or_before}
+use Rattle.hint_queue.proofs.Seats.{each_set}
+use Rattle.shared_lemmas.proofs.Lists.{last_or_before}
 
 -- a sum over seats, of which one changes
 sum_set : {A : Type 0} (f : A → ℕ) (xs : List A) (id : ℕ) (was is : A) → get_elem? xs id ≡ some was → sum_by f (set xs id is) + f was ≡ sum_by f xs + f is

@@ -7,6 +7,7 @@ use Rattle.std.proofs.lemmas.List.Sums.{fails_before_first, sum_by-cons}
 use Rattle.ssd_geo.specs.declared.base.BlockBase.{BlockBase}
 use Rattle.ssd_histories.specs.Blocks.{blank_block, block_at, first_some, free_blocks_in, freshest_of, frontier_of, is_free_block, is_freshest, is_no_fresher, left_in, next_superblock, slots_left}
 use Rattle.history_laws.proofs.Counting.{one, one_false}
+use Rattle.ssd_histories.proofs.FreeBlocks.{none_free_below}
 
 -- an item of a list that passes a test
 pub record Passes {X : Type 0} (p : X → Bool) (d : X) (xs : List X) : Type 0 where
@@ -58,19 +59,6 @@ second_fails : (a b : Bool) → a ≡ true → (a && b) ≡ false → b ≡ fals
 second_fails true b e f = f
 second_fails false b e f = absurd (grind arith)
 
--- where none is the freshest, none is free: each free one would have a fresher one
-none_free : (blocks : List BlockBase) → ((k : ℕ) → k < length blocks → is_freshest blocks (block_at blocks k) ≡ false)
-    → (n k : ℕ) → k < length blocks → is_free_block (block_at blocks k) ≡ true → (block_at blocks k).erases < n → ⊥
-none_free blocks none zero k lt free less = absurd (omega arith)
-none_free blocks none (suc n) k lt free less =
-    let found : Passes (λ other. not (is_no_fresher (block_at blocks k) other)) blank_block blocks =
-    some_fails (is_no_fresher (block_at blocks k)) blank_block blocks
-    (second_fails (is_free_block (block_at blocks k)) (list_all (is_no_fresher (block_at blocks k)) blocks) free (none k lt)) in
-    let more : (is_free_block (block_at blocks found.index) ≡ true) ×
-    ((block_at blocks found.index).erases < (block_at blocks k).erases) =
-    fresher (block_at blocks k) (block_at blocks found.index) found.passes in
-    none_free blocks none n found.index found.within more.0 (omega (arith, more.1, less))
-
 -- where no item is found, none passes
 pub none_found : (p : BlockBase → Bool) (xs : List BlockBase) (k : ℕ) (d : BlockBase) → position p xs ≡ None → k < length xs
     → p (get_or xs k d) ≡ false
@@ -100,7 +88,7 @@ room_has_next slots blocks room = by_frontier (frontier_of blocks) refl
     by_freshest None none is =
         let found : Passes is_free_block blank_block blocks = some_counted is_free_block blank_block blocks
         (is_free none room) in
-        absurd (none_free blocks (λ k lt. none_found (is_freshest blocks) blocks k blank_block is lt)
+        absurd (none_free_below blocks (λ k lt. none_found (is_freshest blocks) blocks k blank_block is lt)
         (suc (block_at blocks found.index).erases)
         found.index found.within found.passes (omega arith))
 

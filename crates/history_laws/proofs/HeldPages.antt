@@ -18,32 +18,23 @@ use Rattle.ssd_histories.specs.PastBlocks.{used_of}
 use Rattle.ssd_histories.specs.PinnedPages.{KeepsPages}
 use Rattle.ssd_histories.specs.Room.{is_stripe_closed}
 use Rattle.ssd_histories.proofs.OpenLookLaws.{all_left}
-use Rattle.ssd_histories.proofs.PinnedWords.{pinned_pages_stay}
+use Rattle.ssd_histories.proofs.PinnedWords.{pinned_pages_stay, spared_keeps}
 use Rattle.ssd_histories.proofs.RewrittenRows.{all_by_two, erases_spare_looks}
 use Rattle.ssd_histories.proofs.UsedSlots.{Keeps, made, used_kept}
 use Rattle.recovery_laws.proofs.StartPages.{starts_have_named_pages}
 use Rattle.history_laws.specs.HeldPages.{HoldsFast, OpenLooksHoldFast}
+use Rattle.recovery_laws.proofs.HeldLooks.{still_within}
 
 -- the stripe that a look said to be closed is closed
 abbrev StripeIsHeld : ChannelBase → List Entry → Tag × Look → Type 0
 StripeIsHeld base past pin = IsTrue pin.1.closed → IsTrue (is_stripe_closed base past pin.1.slot)
-
--- an entry that doesn't erase a superblock leaves it no fewer used slots
-spared_keeps : (sb : ℕ) (kind : Kind) → is_erase_or_bad_erase_of sb kind ≡ false → Keeps sb kind
-spared_keeps sb (Kind.Erase named) e = e
-spared_keeps sb (Kind.BadErase named die fault) e = e
-spared_keeps sb kind e = tt
-
--- enough slots stay enough
-still_closed : (slots before after : ℕ) → before ≤ after → nat_le slots before ≡ true → nat_le slots after ≡ true
-still_closed slots before after more closed = grind (arith, nat_tests)
 
 -- such an entry leaves the stripe closed
 stripe_step : (base : ChannelBase) (past : List Entry) (tag : Tag) (kind : Kind) (pin : Tag × Look)
     → is_erase_or_bad_erase_of pin.1.slot.sb kind ≡ false
     → StripeIsHeld base past pin → StripeIsHeld base (made tag kind ∷ past) pin
 stripe_step base past tag kind pin spared held closed =
-    still_closed ((stripe_of_index base.shape.dies pin.1.slot.index + 1) * (base.shape.dies - 1))
+    still_within ((stripe_of_index base.shape.dies pin.1.slot.index + 1) * (base.shape.dies - 1))
     (used_of base past pin.1.slot.sb)
     (used_of base (made tag kind ∷ past) pin.1.slot.sb)
     (used_kept pin.1.slot.sb kind (used_of base past pin.1.slot.sb) (spared_keeps pin.1.slot.sb kind spared)) (held closed)

@@ -28,9 +28,10 @@ use Rattle.ssd_histories.specs.Room.{live_of, next_slot}
 use Rattle.ssd_histories.specs.Standing.{IsStart, names_used}
 use Rattle.ssd_histories.specs.Start.{Start}
 use Rattle.ssd_histories.proofs.MapRows.{rows_after_entry}
-use Rattle.ssd_histories.proofs.UsedSlots.{made, next_is_used, of_some, second_holds, slot_in_range}
+use Rattle.ssd_histories.proofs.UsedSlots.{made, next_is_used, of_some, second_holds, slot_in_range, due_used}
 use Rattle.history_laws.specs.LivePages.{FitsItsSlots, LivePagesFit}
 use Rattle.history_laws.proofs.Counting.{at_most_one, count_set_most, counts_add, one, one_false}
+use Rattle.ssd_histories.proofs.StartRows.{rows_at_start}
 
 -- ---- the page map at the start
 
@@ -109,14 +110,6 @@ live_under base sb (row ∷ rows) used =
       live_under base sb rows (All-tail (λ (r : Row). IsTrue (names_used base r)) row rows used),
     )
 
--- the page map of the base is that before the first entry
-rows_at_start : (start : Start) → IsStart start → start.base.rows ≡ rows_of start.base []
-rows_at_start start is_start =
-    ext_get_or Row.Empty start.base.rows (rows_of start.base [])
-    (is_start.rows_count ∙ sym (length-map-range_with_len (row_of start.base []) 0 start.base.shape.rows))
-    (λ row lt. sym (get_or-map-range_with_len (row_of start.base []) 0 start.base.shape.rows row row Row.Empty
-    (omega (arith, is_start.rows_count)) (omega arith)))
-
 -- they are no more than the used slots at the start
 live_at_start : (start : Start) (sb : ℕ) → IsStart start → live_of start.base [] sb ≤ used_of start.base [] sb
 live_at_start start sb is_start =
@@ -128,14 +121,6 @@ live_at_start start sb is_start =
       live_under start.base sb start.base.rows is_start.rows_used,
       few_under start.base.rows sb (block_at start.base.blocks sb).used is_start.rows_apart,
     )
-
--- a superblock that is as its state asks has no more slots used than it has
-due_used : (slots : ℕ) (state : SbState) (used : ℕ) → has_due_used slots state used ≡ true → used ≤ slots
-due_used slots SbState.Free used e = grind (arith, nat_tests)
-due_used slots SbState.Frontier used e = grind (arith, nat_tests)
-due_used slots SbState.Sealed used e = grind (arith, nat_tests)
-due_used slots SbState.Bad used e = grind (arith, nat_tests)
-due_used slots SbState.Victim used e = grind (arith, nat_tests)
 
 used_at_start : (start : Start) (sb : ℕ) → IsStart start → sb < start.base.shape.superblocks
     → used_of start.base [] sb ≤ slots_in start.base

@@ -12,19 +12,14 @@ use Rattle.ssd_histories.specs.History.{is_same_tag, look_by, open_looks}
 use Rattle.ssd_histories.specs.Lawful.{IsLawfulBy, IsLawfulKind, IsLawfulSense, has_fault_sense, is_fault_sense_of}
 use Rattle.ssd_histories.specs.OpenLooks.{began_at, look_at, without_look}
 use Rattle.recovery_laws.proofs.Pasts.{IsMade, StepLook, look_is_made_at, open_looks_made, step_look}
+use Rattle.shared_lemmas.proofs.Tests.{is_other, same_number}
+use Rattle.ssd_histories.proofs.SameTags.{same_tag}
 
 -- each open look began before now
 looks_below : (past : List Entry) → All (λ pin. pin.1.at < length past) (open_looks past)
 looks_below past =
     All-weaker (IsMade past) (λ pin. pin.1.at < length past) (λ pin is. (look_is_made_at past pin.1.at pin.1 is).below)
     (open_looks past) (open_looks_made past)
-
--- a number that is less is another, and each is itself
-earlier : (a b : ℕ) → a < b → (a == b) ≡ false
-earlier a b lt = grind (arith, nat_tests)
-
-itself : (n : ℕ) → (n == n) ≡ true
-itself n = grind (arith, nat_tests)
 
 -- what is chosen by a test that holds, and by one that fails
 chosen_here : {A : Type 0} (b : Bool) (here other : A) → b ≡ true → ◌≡◌ {A = A} (cond b here other) here
@@ -38,28 +33,20 @@ chosen_other false here other e = refl
 -- the last of some looks is found at its position, and is the one that goes when it is left
 last_found : (pins : List (Tag × Look)) (pin : Tag × Look) → All (λ other. other.1.at < pin.1.at) pins
     → look_at (pins ++ pin ∷ []) pin.1.at ≡ Some pin
-last_found [] pin all = chosen_here (began_at pin.1.at pin) (Some pin) None (itself pin.1.at)
+last_found [] pin all = chosen_here (began_at pin.1.at pin) (Some pin) None (same_number pin.1.at)
 last_found (first ∷ pins) pin all =
     chosen_other (began_at pin.1.at first) (Some first) (look_at (pins ++ pin ∷ []) pin.1.at)
-    (earlier first.1.at pin.1.at (All-head (λ (other : Tag × Look). other.1.at < pin.1.at) first pins all))
+    (is_other first.1.at pin.1.at (All-head (λ (other : Tag × Look). other.1.at < pin.1.at) first pins all))
     ∙ last_found pins pin (All-tail (λ (other : Tag × Look). other.1.at < pin.1.at) first pins all)
 
 last_left : (pins : List (Tag × Look)) (pin : Tag × Look) → All (λ other. other.1.at < pin.1.at) pins
     → without_look (pins ++ pin ∷ []) pin.1.at ≡ pins
-last_left [] pin all = chosen_here (began_at pin.1.at pin) [] (pin ∷ []) (itself pin.1.at)
+last_left [] pin all = chosen_here (began_at pin.1.at pin) [] (pin ∷ []) (same_number pin.1.at)
 last_left (first ∷ pins) pin all =
     chosen_other (began_at pin.1.at first) (pins ++ pin ∷ []) (first ∷ without_look (pins ++ pin ∷ []) pin.1.at)
-    (earlier first.1.at pin.1.at (All-head (λ (other : Tag × Look). other.1.at < pin.1.at) first pins all))
+    (is_other first.1.at pin.1.at (All-head (λ (other : Tag × Look). other.1.at < pin.1.at) first pins all))
     ∙ ap {B = List (Tag × Look)} (λ (rest : List (Tag × Look)). first ∷ rest)
     (last_left pins pin (All-tail (λ (other : Tag × Look). other.1.at < pin.1.at) first pins all))
-
--- a tag is the same as itself
-same_tag : (tag : Tag) → is_same_tag tag tag ≡ true
-same_tag tag = both (tag.actor == tag.actor) (tag.call == tag.call) (itself tag.actor) (itself tag.call)
-  where
-    both : (a b : Bool) → a ≡ true → b ≡ true → (a && b) ≡ true
-    both true b e f = f
-    both false b e f = absurd (grind arith)
 
 -- the look made last, beside those open before
 pub newest_is_open : (past : List Entry) (tag : Tag) (look : Look) → look.at ≡ length past
@@ -97,7 +84,7 @@ fault_before state base past tag (Kind.FaultSense named place level) at c later 
     let step : StepLook past named (λ pin. Unit {0}) (λ look. IsLawfulSense (state named) past named place level) =
     step_look past tag named (λ pin. Unit {0}) (λ look. IsLawfulSense (state named) past named place level)
     (λ k d within. tt) c in
-    earlier named at (omega (arith, later, (look_is_made_at past named step.pin.1 step.is_look).below))
+    is_other named at (omega (arith, later, (look_is_made_at past named step.pin.1 step.is_look).below))
 fault_before state base past tag kind at c later = refl
 
 -- so no entry of a lawful past is

@@ -12,29 +12,9 @@ use Rattle.ssd_geo.specs.declared.superblock.SbState.{SbState}
 use Rattle.ssd_histories.specs.Blocks as Blocks
 use Rattle.ssd_histories.specs.States as States
 use Rattle.history_laws.proofs.Counting.{count_set, one_false, one_true}
+use Rattle.shared_lemmas.proofs.Positions.{place-new, place-same}
 
 -- ---- the first item that passes a test
-
--- the first item that passes stands at its place
-placed : {X : Type 0} (p : X → Bool) (xs : List X) (i : ℕ) → position_or_len p xs ≡ i → i < length xs → position p xs ≡ Some i
-placed p xs i e lt = grind (arith, e, lt)
-
--- where one item is set to one that passes just if it did, the first is the same
-first_same : {X : Type 0} (p : X → Bool) (xs : List X) (i : ℕ) (y d : X) → p y ≡ p (get_or xs i d)
-    → position p (set xs i y) ≡ position p xs
-first_same p xs i y d same = rw (position_or_len-set p xs i y d same, length-set) refl
-
--- where none passed, it is the one that was set and passes
-pub first_new : {X : Type 0} (p : X → Bool) (xs : List X) (i : ℕ) (y d : X) → i < length xs → position p xs ≡ None
-    → p y ≡ true → position p (set xs i y) ≡ Some i
-first_new p xs i y d lt none passes =
-    let within : i < length (set xs i y) = rw length-set lt in
-    placed p (set xs i y) i
-    (position_or_len_is p (set xs i y) i d (omega arith)
-    (λ k below. let other : k ≢ i = omega arith in rw (get_or-set_other xs i k y d other)
-    (fails_before_first p xs k d (grind (arith, none, lt))))
-    (λ _. rw (get_or-set_same xs i y d lt) passes))
-    within
 
 -- ---- the reserve
 
@@ -219,7 +199,7 @@ used_next slots blocks k next unused = by_parts (next_parts (Blocks.frontier_of 
     after = Blocks.with_slot_used slots block
 
     same_victim : Blocks.is_victim_block block ≡ false → Blocks.victim_in (set blocks k after) ≡ Blocks.victim_in blocks
-    same_victim other = first_same Blocks.is_victim_block blocks k after Blocks.blank_block (used_isnt_victim slots block
+    same_victim other = place-same Blocks.is_victim_block blocks k after Blocks.blank_block (used_isnt_victim slots block
         ∙ sym other)
 
     -- the slots left after the superblock with the next slot is the frontier, if it still has one
@@ -238,7 +218,7 @@ used_next slots blocks k next unused = by_parts (next_parts (Blocks.frontier_of 
         let neither : (States.is_free block.state ≡ false) × (States.is_victim block.state ≡ false) = frontier_is_neither
         block.state found.1 in
         let still : (block.used + 1 == slots) ≡ false → Blocks.frontier_of (set blocks k after) ≡ Some k =
-        λ e. first_same Blocks.is_frontier_block blocks k after Blocks.blank_block (used_is_frontier slots block e
+        λ e. place-same Blocks.is_frontier_block blocks k after Blocks.blank_block (used_is_frontier slots block e
         ∙ sym found.1) ∙ is in
         record {
           victim = same_victim neither.1;
@@ -264,7 +244,7 @@ used_next slots blocks k next unused = by_parts (next_parts (Blocks.frontier_of 
         let free : Blocks.is_free_block block ≡ true = first (Blocks.is_free_block block)
         (list_all (Blocks.is_no_fresher block) blocks) found.1 in
         let now : (block.used + 1 == slots) ≡ false → Blocks.frontier_of (set blocks k after) ≡ Some k =
-        λ e. first_new Blocks.is_frontier_block blocks k after Blocks.blank_block found.0 both.0
+        λ e. place-new Blocks.is_frontier_block blocks k after Blocks.blank_block found.0 both.0
         (used_is_frontier slots block e) in
         record {
           victim = same_victim (free_is_no_victim block.state free);

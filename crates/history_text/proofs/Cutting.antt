@@ -8,14 +8,8 @@ use Rattle.std.proofs.lemmas.List.Sums.{fails_before_first}
 use Rattle.std.proofs.lemmas.Grind.{common_steps}
 use Rattle.ssd_formats.specs.Numbers.{Text}
 use Rattle.history_text.specs.Pieces.{is_byte, only_piece, pieces_of}
-
-found_at : (b : Bool) (m n : ℕ) → cond b (Some m) None ≡ Some n → (b ≡ true) × (m ≡ n)
-found_at true m n e = (refl, cc)
-found_at false m n e = absurd (cc)
-
-found_nowhere : (b : Bool) (m : ℕ) → cond b (Some m) None ≡ None → b ≡ false
-found_nowhere true m e = absurd (cc)
-found_nowhere false m e = refl
+use Rattle.std.proofs.lemmas.Option.{cond_some}
+use Rattle.shared_lemmas.proofs.Tests.{not_passed}
 
 -- what stands before the first separator is a piece, and the others are those of what stands behind it
 pub cut_at : (separator at : ℕ) (text : Text) → position (is_byte separator) text ≡ Some at →
@@ -23,7 +17,7 @@ pub cut_at : (separator at : ℕ) (text : Text) → position (is_byte separator)
     ≡ take at text ∷ pieces_of separator (take (length text - (at + 1)) (drop (at + 1) text))
 cut_at separator at text e =
     let p = is_byte separator in
-    let found = found_at (nat_lt (position_or_len p text) (length text)) (position_or_len p text) at e in
+    let found = cond_some (nat_lt (position_or_len p text) (length text)) (position_or_len p text) at e in
     let inside : position_or_len p text < length text = let b = found.0 in grind (arith, common_steps) in
     let rest = drop (at + 1) text in
     let whole = take_all (length text - (at + 1)) rest (omega (arith, length-drop (at + 1) text)) in
@@ -36,7 +30,7 @@ pub cut_nowhere : (separator : ℕ) (text : Text) → position (is_byte separato
     pieces_of separator text ≡ text ∷ []
 cut_nowhere separator text e =
     let p = is_byte separator in
-    let no = found_nowhere (nat_lt (position_or_len p text) (length text)) (position_or_len p text) e in
+    let no = not_passed (nat_lt (position_or_len p text) (length text)) (position_or_len p text) e in
     let outside : length text ≤ position_or_len p text = grind (arith, common_steps) in
     slice_split_none p text (λ k d inside. fails_before_first p text k d (omega (arith, inside, outside)))
 

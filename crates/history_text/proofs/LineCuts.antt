@@ -7,18 +7,14 @@ use Rattle.ssd_formats.specs.HistoryText.{printed_lines}
 use Rattle.ssd_formats.specs.Numbers.{Text}
 use Rattle.history_text.specs.LinesLeft.{first_line, lines_of}
 use Rattle.history_text.specs.Pieces.{is_byte, pieces_of}
-
-whole_line : (line : Text) (pieces : List Text) → 0 < length pieces →
-    printed_lines (line ∷ pieces) ≡ Some line ∷ printed_lines pieces
-whole_line line [] some = absurd (omega (arith, some))
-whole_line line (next ∷ pieces) some = refl
+use Rattle.ssd_formats.proofs.LineLaws.{printed_more}
 
 -- what stands before an LF is a line
 pub line_before : (text line behind : Text) → pieces_of 10 text ≡ line ∷ pieces_of 10 behind →
     lines_of text ≡ Some line ∷ lines_of behind
 line_before text line behind e =
     ap printed_lines e
-    ∙ whole_line line (pieces_of 10 behind) (omega (arith, length-slice_split (is_byte 10) behind))
+    ∙ printed_more line (pieces_of 10 behind) (omega (arith, length-slice_split (is_byte 10) behind))
 
 rest_without_end : (b : Bool) → first_line (cond b [] (None ∷ [])) ≡ None
 rest_without_end true = refl

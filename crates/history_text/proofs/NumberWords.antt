@@ -2,31 +2,14 @@
 use Rattle.std.proofs.Common.{◌≡◌, refl, sym, ap, ◌∙◌, ℕ, ◌^◌, ◌<◌, Bool, true, false, cond, ◌&&◌}
 use Rattle.std.proofs.Common.{nat_lt, [], ◌∷◌, length, Some, None, Result, Ok, Err, arith}
 use Rattle.std.specs.Result.{OkIff, result_ok}
-use Rattle.std.specs.Str.{IsUtf8, all_ascii_digits}
+use Rattle.std.specs.Str.{all_ascii_digits}
 use Rattle.std.specs.Str.Parse.{ParsesUnsigned, digits_value}
-use Rattle.std.proofs.lemmas.Fmt.{IsAscii-from_digits}
 use Rattle.std.proofs.lemmas.Grind.{common_steps}
-use Rattle.std.proofs.lemmas.Str.{IsUtf8-from_ascii}
 use Rattle.std.proofs.lemmas.Str.Parse.{IsNumeralModel, numerals_by_value, parse_digits}
 use Rattle.std.proofs.lemmas.Str.Parse.{tells_all_ascii_digits}
 use Rattle.ssd_formats.specs.KindOfWords.{number_64}
 use Rattle.ssd_formats.specs.Numbers.{Text, is_number}
-
-numerals : IsNumeralModel (λ ds. all_ascii_digits ds ≡ true) (digits_value 10)
-numerals = numerals_by_value _ tells_all_ascii_digits
-
-first_true : (a b : Bool) → (a && b) ≡ true → a ≡ true
-first_true true b e = refl
-first_true false b e = absurd (cc)
-
-number_has_digits : (word : Text) → is_number word ≡ true →
-    (all_ascii_digits word ≡ true) × (0 < length word)
-number_has_digits [] e = absurd (cc)
-number_has_digits (c ∷ cs) e = (first_true (all_ascii_digits (c ∷ cs)) _ e, omega arith)
-
-pub number_is_utf8 : (word : Text) → is_number word ≡ true → IsUtf8 word
-number_is_utf8 word e =
-    IsUtf8-from_ascii word (IsAscii-from_digits word (numerals.to word (number_has_digits word e).0))
+use Rattle.ssd_formats.proofs.NumberLaws.{number_is_spelled, own}
 
 fits : (n : ℕ) → n < 2 ^ 64 → cond (nat_lt n (2 ^ 64)) (Some n) None ≡ Some n
 fits n h = grind (arith, common_steps)
@@ -44,7 +27,7 @@ parsed_value n long (Err e) some is = sym (too_great n (λ small. is (some, smal
 pub parsed_number : {E : Type 0} (word : Text) (parsed : Result ℕ E) → is_number word ≡ true →
     ParsesUnsigned 64 10 word parsed → result_ok parsed ≡ number_64 word
 parsed_number word parsed e is =
-    let digits = number_has_digits word e in
-    let value = parse_digits numerals 64 word parsed is digits.0 in
+    let digits = number_is_spelled word e in
+    let value = parse_digits own 64 word parsed is digits.0 in
     let read = parsed_value (digits_value 10 word) (length word) parsed digits.1 value in
     rw e read

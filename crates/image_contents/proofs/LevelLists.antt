@@ -5,10 +5,7 @@ use Rattle.std.proofs.lemmas.Grind.{common_steps}
 use Rattle.ssd_formats.specs.ImageContents.{is_page}
 use Rattle.ssd_geo.specs.Limits.{is_level}
 use Rattle.image_contents.specs.Parts.{IsFirstOutside}
-
-taken_front : {A : Type 0} (xs ys : List A) → take (length xs) (xs ++ ys) ≡ xs
-taken_front [] ys = refl
-taken_front (x ∷ xs) ys = ap (λ l. x ∷ l) (taken_front xs ys)
+use Rattle.shared_lemmas.proofs.Lists.{taken_front}
 
 got_next : {A : Type 0} (xs ys : List A) (x d : A) → get_or (xs ++ x ∷ ys) (length xs) d ≡ x
 got_next [] ys x d = refl
@@ -36,7 +33,3 @@ pub is_page_if : (cells : ℕ) (levels : List ℤ) → length levels ≡ cells �
 is_page_if cells levels long right =
     let test : (length levels == cells) ≡ true = grind (arith, common_steps) in
     rw (test, right) refl
-
--- a list that was written over all of another
-pub written_whole : {A : Type 0} (n : ℕ) (xs ys : List A) → length xs ≡ n → take n (xs ++ drop (length xs) ys) ≡ xs
-written_whole n xs ys all = ap (λ (k : ℕ). take k (xs ++ drop (length xs) ys)) (sym all) ∙ taken_front xs (drop (length xs) ys)

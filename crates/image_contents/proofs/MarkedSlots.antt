@@ -13,11 +13,7 @@ use Rattle.ssd_geo.specs.declared.row.Row.{Row}
 use Rattle.ssd_geo.specs.declared.row.Row.TheVariants.{Page}
 use Rattle.ssd_geo.specs.declared.slot.Slot.{Slot}
 use Rattle.image_contents.specs.RowMarks.{AreMarks}
-
-no_mark : (n k : ℕ) → get_or (replicate n false) k false ≡ false
-no_mark zero k = refl
-no_mark (suc n) zero = refl
-no_mark (suc n) (suc k) = no_mark n k
+use Rattle.shared_lemmas.proofs.Lists.{no_mark}
 
 -- without rows no slot is marked
 pub none_marked : (superblocks slots n : ℕ) (marks : List Bool) → n ≡ superblocks * slots → marks ≡ replicate n false → length marks ≡ n → AreMarks superblocks slots [] marks

@@ -6,12 +6,12 @@ use Rattle.ssd_formats.specs.Fields.{Rest, bytes_field, level_fields, signed_fie
 use Rattle.ssd_formats.specs.ImageHead.{signed_numbers}
 use Rattle.ssd_formats.specs.InputFaults.{range, short}
 use Rattle.ssd_geo.specs.Limits.{is_level}
-use Rattle.ssd_formats.proofs.HeadLaws.{both_of}
 use Rattle.std.specs.Io.KnownBytes.{Consumes, IsAtEnd}
 use Rattle.ssd_io.specs.Told.{IsTold}
 use Rattle.image_file.specs.Gives.{rest_at}
 use Rattle.image_file.proofs.LevelSteps.{level_lacks, level_more, levels_end}
 use Rattle.image_contents.specs.Parts.{IsFirstOutside}
+use Rattle.std.proofs.lemmas.Bool.{and_parts}
 
 -- bytes from a place on
 abbrev pub from : ℕ → List ℕ → Rest
@@ -51,7 +51,7 @@ levels_pass (low ∷ []) (suc m) extra place after before all left long right at
 levels_pass (low ∷ high ∷ xs) zero extra place after before all left long right at they = absurd (omega arith)
 levels_pass (low ∷ high ∷ xs) (suc m) extra place after before all left long right at they =
     let level : ℤ = signed_of_bytes (low ∷ high ∷ []) in
-    let both = both_of (is_level level) (list_all is_level (signed_numbers xs)) right in
+    let both = and_parts (is_level level) (list_all is_level (signed_numbers xs)) right in
     sym (level_more (suc m + extra) (m + extra) before (from place (low ∷ high ∷ xs ++ left)) (from (place + 2) (xs ++ left)) level (suc-add m extra)
     (right_level place low high (xs ++ left) both.0))
     ∙ levels_pass xs m extra (place + 2) after (before ++ level ∷ []) all left (omega arith) both.1 (omega arith)
@@ -73,7 +73,7 @@ levels_fail (low ∷ high ∷ xs) zero (suc m) extra place at before left long w
     ∙ ap (λ (n : ℕ). Err (n, range)) first
 levels_fail (low ∷ high ∷ xs) (suc i) (suc m) extra place at before left long within right wrong here =
     let level : ℤ = signed_of_bytes (low ∷ high ∷ []) in
-    let both = both_of (is_level level) (list_all is_level (take i (signed_numbers xs))) right in
+    let both = and_parts (is_level level) (list_all is_level (take i (signed_numbers xs))) right in
     sym (level_more (suc m + extra) (m + extra) before (from place (low ∷ high ∷ xs ++ left)) (from (place + 2) (xs ++ left)) level (suc-add m extra)
     (right_level place low high (xs ++ left) both.0))
     ∙ levels_fail xs i m extra (place + 2) at (before ++ level ∷ []) left (omega arith) (omega arith) both.1 wrong (omega arith)

@@ -1,7 +1,7 @@
 -- The rows that were read so far.
 use Rattle.std.proofs.Common.{◌≡◌, ℕ, ◌^◌, ◌<◌, ◌≤◌, ◌&&◌, Bool, true, List, [], ◌∷◌, ◌++◌, refl, sym, ap, ◌∙◌, arith, append_assoc, append-nil, not}
 use Rattle.std.specs.List.{list_any}
-use Rattle.ssd_formats.proofs.HeadLaws.{below_is, both_of}
+use Rattle.ssd_formats.proofs.HeadLaws.{below_is}
 use Rattle.ssd_formats.proofs.SpelledHeads.{below_if}
 use Rattle.ssd_formats.specs.Fields.{is_below}
 use Rattle.ssd_formats.specs.ImageContents.{are_saved_rows, is_saved_row, may_name, slots_of_sizes}
@@ -12,6 +12,7 @@ use Rattle.ssd_geo.specs.declared.base.BlockBase.{BlockBase}
 use Rattle.ssd_geo.specs.declared.row.Row.{Row}
 use Rattle.ssd_geo.specs.declared.row.Row.TheVariants.{Empty, Lost, Page}
 use Rattle.image_contents.specs.Parts.{FitsRows}
+use Rattle.std.proofs.lemmas.Bool.{and_parts}
 
 -- one more, after those before
 rows_after : (sizes : Sizes) (blocks : List BlockBase) (before rows : List Row) (more : Row) → are_saved_rows sizes blocks before rows ≡ true
@@ -20,7 +21,7 @@ rows_after sizes blocks before [] more are is =
     let here : is_saved_row sizes blocks before more ≡ true = ap (λ l. is_saved_row sizes blocks l more) (sym (append-nil before)) ∙ is in
     rw here refl
 rows_after sizes blocks before (one ∷ rows) more are is =
-    let both = both_of (is_saved_row sizes blocks before one) (are_saved_rows sizes blocks (before ++ one ∷ []) rows) are in
+    let both = and_parts (is_saved_row sizes blocks before one) (are_saved_rows sizes blocks (before ++ one ∷ []) rows) are in
     let again : is_saved_row sizes blocks ((before ++ one ∷ []) ++ rows) more ≡ true =
     ap (λ l. is_saved_row sizes blocks l more) (append_assoc before (one ∷ []) rows) ∙ is in
     rw (both.0, rows_after sizes blocks (before ++ one ∷ []) rows more both.1 again) refl
@@ -38,10 +39,10 @@ row_within sizes blocks before superblocks slots (Page slot serial) fits is =
     let sb_is : Bool = is_below sizes.superblocks slot.sb in
     let index_is : Bool = is_below (2 ^ 32) slot.index in
     let serial_is : Bool = is_below (2 ^ 64) serial in
-    let all = both_of (sb_is && index_is && serial_is) (may_name blocks before slot) is in
-    let some = both_of (sb_is && index_is) serial_is all.0 in
-    let first = both_of sb_is index_is some.0 in
-    let named = both_of (is_below (block_at blocks slot.sb).used slot.index) (not (list_any (names_slot slot) before)) all.1 in
+    let all = and_parts (sb_is && index_is && serial_is) (may_name blocks before slot) is in
+    let some = and_parts (sb_is && index_is) serial_is all.0 in
+    let first = and_parts sb_is index_is some.0 in
+    let named = and_parts (is_below (block_at blocks slot.sb).used slot.index) (not (list_any (names_slot slot) before)) all.1 in
     let sb : slot.sb < sizes.superblocks = below_is sizes.superblocks slot.sb first.0 in
     let index : slot.index < (block_at blocks slot.sb).used = below_is (block_at blocks slot.sb).used slot.index named.0 in
     let used : (block_at blocks slot.sb).used ≤ slots_of_sizes sizes = fits.used slot.sb blank_block (omega (arith, fits.count, sb)) in

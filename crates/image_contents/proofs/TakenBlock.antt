@@ -16,11 +16,12 @@ use Rattle.chan_dies.specs.DiesState.{blocks_in, no_die}
 use Rattle.drive_dies.specs.Mounting.{EachBecomes}
 use Rattle.onfi_cmd.specs.DieState.{DieState}
 use Rattle.ssd_geo.specs.declared.base.BlockBase.{BlockBase}
-use Rattle.image_contents.proofs.CountLists.{few_within, used_fits}
+use Rattle.image_contents.proofs.CountLists.{used_fits}
 use Rattle.image_contents.proofs.SizeBounds.{few_slots}
 use Rattle.image_contents.specs.DiesLoaded.{LoadsBlock, block_of, count_at, pages_in}
 use Rattle.image_contents.specs.Parts.{IsFront}
 use Rattle.image_contents.specs.Taken.{TakesBlock}
+use Rattle.ssd_formats.proofs.SpelledContents.{within_if}
 
 -- what became of the block of a die, by the die's number
 loaded_at : (P : ℕ → DieState → DieState → Type 0) (olds news : List DieState) (die : ℕ) → EachBecomes P olds news → die < length news
@@ -69,7 +70,7 @@ saved_of_parts head channel before saved counts front below all counts_are pages
     let block : BlockBase = saved.block in
     let number : length (blocks_of_saved before) ≡ length before = length-map before (λ (of : SavedBlock). of.block) in
     let may : may_be head channel before block.state ≡ true = rw (sym number) front.may_be in
-    let erases : is_within 0 (2 ^ 31) block.erases ≡ true = few_within block.erases (2 ^ 31) front.erases in
+    let erases : is_within 0 (2 ^ 31) block.erases ≡ true = within_if block.erases (2 ^ 31) front.erases in
     let dies : (length saved.pages == sizes.dies) ≡ true = rw all (grind (arith, common_steps)) in
     let programmed : are_programmed_counts sizes block.state (length before) block.used [] (map length saved.pages) ≡ true =
     rw (counts_are, sym number) front.counts_are in

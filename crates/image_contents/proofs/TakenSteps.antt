@@ -12,7 +12,6 @@ use Rattle.ssd_geo.specs.BlockCells.{BlockCells, blank_cells}
 use Rattle.ssd_geo.specs.Limits.{Sizes, is_within, page_cells_of, word_bytes_of}
 use Rattle.ssd_formats.specs.Fields.{is_below}
 use Rattle.ssd_geo.specs.StripeSum.{zero_word}
-use Rattle.ssd_formats.proofs.HeadLaws.{both_of}
 use Rattle.ssd_formats.specs.ImageContents.{SavedBlock, are_pages, are_programmed_counts, are_saved_blocks, is_sum, slots_of_sizes, blocks_of_saved, cells_of_block, has_before, is_factory_bad, is_saved_block, is_stripe_open, may_be, sum_of_saved}
 use Rattle.ssd_formats.specs.ImageHead.{Head}
 use Rattle.ssd_histories.specs.Blocks.{has_due_used, is_frontier_block, is_victim_block}
@@ -23,6 +22,7 @@ use Rattle.ssd_geo.specs.declared.base.BlockBase.{BlockBase}
 use Rattle.ssd_geo.specs.declared.superblock.SbState.{SbState}
 use Rattle.image_contents.proofs.CountLists.{used_fits}
 use Rattle.image_contents.specs.Taken.{AreTaken, TakesBlock}
+use Rattle.std.proofs.lemmas.Bool.{and_parts, or_parts}
 
 -- one more that may stand in an image, after those before
 saved_longer : (head : Head) (channel : ℕ) (before saved : List SavedBlock) (more : SavedBlock) → are_saved_blocks head channel before saved ≡ true
@@ -31,7 +31,7 @@ saved_longer head channel before [] more are is =
     let here : is_saved_block head channel before more ≡ true = ap (λ l. is_saved_block head channel l more) (sym (append-nil before)) ∙ is in
     rw here refl
 saved_longer head channel before (block ∷ saved) more are is =
-    let both = both_of (is_saved_block head channel before block) (are_saved_blocks head channel (before ++ block ∷ []) saved) are in
+    let both = and_parts (is_saved_block head channel before block) (are_saved_blocks head channel (before ++ block ∷ []) saved) are in
     let again : is_saved_block head channel ((before ++ block ∷ []) ++ saved) more ≡ true =
     ap (λ l. is_saved_block head channel l more) (append_assoc before (block ∷ []) saved) ∙ is in
     rw (both.0, saved_longer head channel (before ++ block ∷ []) saved more both.1 again) refl
@@ -73,10 +73,6 @@ open_is_frontier sizes block true is opened = refl
 open_is_frontier sizes block false is opened =
     let closed : is_stripe_open sizes block ≡ false = rw is refl in absurd (cc)
 
-neither_of : (a b : Bool) → (a || b) ≡ false → (a ≡ false) × (b ≡ false)
-neither_of true b none = absurd (cc)
-neither_of false b none = (refl, none)
-
 or_none : {A : Type 0} (o : Option A) → option_or o None ≡ o
 or_none (Some x) = refl
 or_none None = refl
@@ -90,7 +86,7 @@ none_open : (sizes : Sizes) (saved : List SavedBlock) → list_any is_frontier_b
     → find (λ (of : SavedBlock). is_stripe_open sizes of.block) saved ≡ None
 none_open sizes [] none = refl
 none_open sizes (of ∷ saved) none =
-    let parts = neither_of (is_frontier_block of.block) (list_any is_frontier_block (blocks_of_saved saved)) none in
+    let parts = or_parts (is_frontier_block of.block) (list_any is_frontier_block (blocks_of_saved saved)) none in
     let closed : is_stripe_open sizes of.block ≡ false = rw parts.0 refl in
     rw closed (none_open sizes saved parts.1)
 
@@ -124,13 +120,13 @@ may_be_next head channel before saved e =
     let t6 : Bool = are_programmed_counts sizes block.state (length before) block.used [] (map length saved.pages) in
     let t7 : Bool = list_all (are_pages (page_cells_of sizes)) saved.pages in
     let t8 : Bool = is_sum head block saved.sum in
-    let e8 = both_of (t1 && t2 && t3 && t4 && t5 && t6 && t7) t8 e in
-    let e7 = both_of (t1 && t2 && t3 && t4 && t5 && t6) t7 e8.0 in
-    let e6 = both_of (t1 && t2 && t3 && t4 && t5) t6 e7.0 in
-    let e5 = both_of (t1 && t2 && t3 && t4) t5 e6.0 in
-    let e4 = both_of (t1 && t2 && t3) t4 e5.0 in
-    let e3 = both_of (t1 && t2) t3 e4.0 in
-    let e2 = both_of t1 t2 e3.0 in e2.0
+    let e8 = and_parts (t1 && t2 && t3 && t4 && t5 && t6 && t7) t8 e in
+    let e7 = and_parts (t1 && t2 && t3 && t4 && t5 && t6) t7 e8.0 in
+    let e6 = and_parts (t1 && t2 && t3 && t4 && t5) t6 e7.0 in
+    let e5 = and_parts (t1 && t2 && t3 && t4) t5 e6.0 in
+    let e4 = and_parts (t1 && t2 && t3) t4 e5.0 in
+    let e3 = and_parts (t1 && t2) t3 e4.0 in
+    let e2 = and_parts t1 t2 e3.0 in e2.0
 
 -- so where it has an open stripe, none before is the frontier
 no_frontier_before : (frontier any second third : Bool) → frontier ≡ true → (not (frontier && any) && second && third) ≡ true → any ≡ false
@@ -183,16 +179,16 @@ used_of head channel before saved e =
     let t6 : Bool = are_programmed_counts sizes block.state (length before) block.used [] (map length saved.pages) in
     let t7 : Bool = list_all (are_pages (page_cells_of sizes)) saved.pages in
     let t8 : Bool = is_sum head block saved.sum in
-    let e8 = both_of (t1 && t2 && t3 && t4 && t5 && t6 && t7) t8 e in
-    let e7 = both_of (t1 && t2 && t3 && t4 && t5 && t6) t7 e8.0 in
-    let e6 = both_of (t1 && t2 && t3 && t4 && t5) t6 e7.0 in
-    let e5 = both_of (t1 && t2 && t3 && t4) t5 e6.0 in
-    let e4 = both_of (t1 && t2 && t3) t4 e5.0 in used_fits (slots_of_sizes sizes) block.used block.state e4.1
+    let e8 = and_parts (t1 && t2 && t3 && t4 && t5 && t6 && t7) t8 e in
+    let e7 = and_parts (t1 && t2 && t3 && t4 && t5 && t6) t7 e8.0 in
+    let e6 = and_parts (t1 && t2 && t3 && t4 && t5) t6 e7.0 in
+    let e5 = and_parts (t1 && t2 && t3 && t4) t5 e6.0 in
+    let e4 = and_parts (t1 && t2 && t3) t4 e5.0 in used_fits (slots_of_sizes sizes) block.used block.state e4.1
 
 pub all_used : (head : Head) (channel : ℕ) (before saved : List SavedBlock) → are_saved_blocks head channel before saved ≡ true
     → All (λ block. block.used ≤ slots_of_sizes head.sizes) (blocks_of_saved saved)
 all_used head channel before [] are = All-nil (λ (block : BlockBase). block.used ≤ slots_of_sizes head.sizes)
 all_used head channel before (saved ∷ more) are =
-    let both = both_of (is_saved_block head channel before saved) (are_saved_blocks head channel (before ++ saved ∷ []) more) are in
+    let both = and_parts (is_saved_block head channel before saved) (are_saved_blocks head channel (before ++ saved ∷ []) more) are in
     All-cons (λ (block : BlockBase). block.used ≤ slots_of_sizes head.sizes) saved.block (blocks_of_saved more) (used_of head channel before saved both.0)
     (all_used head channel (before ++ saved ∷ []) more both.1)

@@ -16,26 +16,8 @@ use Rattle.image_file.specs.Fixed.{AreFixed, fixed_of}
 use Rattle.image_file.specs.Sizes.{AreSizes}
 use Rattle.image_file.specs.Lists.{AreLevels, AreBlocks}
 use Rattle.image_file.specs.declared.fixed.FixedFields.{FixedFields}
-
-fits_short : (n : ℤ) → FitsSigned w16 n → is_short n ≡ true
-fits_short (pos n) h = let small : n < 2 ^ 15 = h.sfits in grind (arith, common_steps, ints)
-fits_short (negsuc n) h = let small = h.sfits in grind (arith, common_steps, ints)
-
-picked_short : (b : Bool) (n : ℕ) → nat_lt n (2 ^ 15) ≡ b → is_short (if b then pos n else negsuc (2 ^ 16 - suc n)) ≡ true
-picked_short true n e = fits_short (pos n) (record { sfits = grind (arith, common_steps) })
-picked_short false n e = fits_short (negsuc (2 ^ 16 - suc n)) (record { sfits = grind (arith, common_steps) })
-
-signed_short : (n : ℕ) → is_short (cast_signed w16 n) ≡ true
-signed_short n = picked_short (nat_lt n (2 ^ 15)) n refl
-
--- numbers that two bytes spell fit 16 bits
-pub all_short : (bytes : List ℕ) → list_all is_short (signed_numbers bytes) ≡ true
-all_short [] = refl
-all_short (low ∷ []) = refl
-all_short (low ∷ high ∷ bytes) = rw (signed_short (from_le_bytes w16 (low ∷ high ∷ [])), all_short bytes) refl
-
-none_is : {A : Type 0} (x : Option A) → IsTrue (is_none x) → x ≡ None
-none_is x none = grind (arith, common_steps)
+use Rattle.ssd_formats.proofs.SpelledHeads.{fits_short, picked_short}
+use Rattle.ssd_geo.proofs.AcceptedLayers.{none_from}
 
 -- the head with these parts
 pub head_is : (fixed : FixedFields) (head : ImageHead) → fixed.shape ≡ head.shape → fixed.iterations ≡ head.iterations → fixed.law ≡ head.law → fixed.step ≡ head.step → fixed.session ≡ head.session → AreFixed (fixed_of fixed) → AreLevels fixed.levels head.read_levels → IsTrue (list_all is_short head.entries) → IsAccepted (matrix_of_head (head_of head)) → AreBlocks (sizes_of head.shape) head.weak head.bad → IsHead (head_of head)
@@ -63,7 +45,7 @@ head_is fixed head same_shape same_iterations same_law same_step same_session ar
       levels = levels.within;
       entries = short;
       entry_count = accepted.within.entries;
-      faultless = none_is (first_fault (matrix_of_head (head_of head))) accepted.faultless;
+      faultless = none_from (first_fault (matrix_of_head (head_of head))) accepted.faultless;
       weak_count = blocks.weak_count;
       weak_from = blocks.are_weak.from;
       weak = blocks.are_weak.records;

@@ -1,14 +1,14 @@
 -- Lists of a head that stay in range when one more is read.
 use Rattle.std.proofs.Common.{◌≡◌, ℕ, ℤ, ◌+◌, ◌^◌, ◌<◌, true, List, [], ◌∷◌, ◌++◌, length, arith, refl, sym, ap, ◌∙◌, append_assoc, append-nil, length-append}
 use Rattle.std.specs.Prelude.{IsTrue}
-use Rattle.ssd_formats.proofs.HeadLaws.{both_of}
-use Rattle.ssd_formats.proofs.SpelledHeads.{all_snoc, below_if}
+use Rattle.ssd_formats.proofs.SpelledHeads.{all_snoc, below_if, bad_snoc, weak_snoc}
 use Rattle.ssd_formats.specs.Fields.{is_below}
 use Rattle.ssd_geo.specs.Limits.{is_level}
 use Rattle.ssd_geo.specs.Limits.{Sizes}
 use Rattle.ssd_formats.specs.ImageHead.{is_weak_record, are_weak_records, is_bad_record, are_bad_records}
 use Rattle.ssd_geo.specs.declared.weak.Weak.{Weak}
 use Rattle.image_file.specs.Lists.{AreLevels, AreWeak, AreBad, AreBlocks}
+use Rattle.std.proofs.lemmas.Bool.{and_parts}
 
 -- one more level
 pub levels_longer : (levels : List ℤ) (n : ℕ) (level : ℤ) → AreLevels n levels → IsTrue (is_level level) → AreLevels (n + 1) (levels ++ level ∷ [])
@@ -17,15 +17,6 @@ levels_longer levels n level are one = record {
   within = all_snoc is_level levels level are.within one;
 }
 
--- a list of weak records, after others, with one more at its end
-weak_snoc : (sizes : Sizes) (xs pre : List Weak) (w : Weak) → are_weak_records sizes pre xs ≡ true → is_weak_record sizes (pre ++ xs) w ≡ true → are_weak_records sizes pre (xs ++ w ∷ []) ≡ true
-weak_snoc sizes [] pre w e f =
-    let here : is_weak_record sizes pre w ≡ true = ap (λ l. is_weak_record sizes l w) (sym (append-nil pre)) ∙ f in rw here refl
-weak_snoc sizes (x ∷ xs) pre w e f =
-    let both = both_of (is_weak_record sizes pre x) (are_weak_records sizes (pre ++ x ∷ []) xs) e in
-    let later = weak_snoc sizes xs (pre ++ x ∷ []) w both.1 (ap (λ l. is_weak_record sizes l w) (append_assoc pre (x ∷ []) xs) ∙ f) in
-    rw (both.0, later) refl
-
 -- one more weak block
 pub weak_longer : (sizes : Sizes) (weak : List Weak) (n : ℕ) (w : Weak) → AreWeak sizes n weak → IsTrue (is_weak_record sizes weak w) → w.from < 2 ^ 32 → AreWeak sizes (n + 1) (weak ++ w ∷ [])
 weak_longer sizes weak n w are one small = record {
@@ -33,15 +24,6 @@ weak_longer sizes weak n w are one small = record {
   from = all_snoc (λ (x : Weak). is_below (2 ^ 32) x.from) weak w are.from (below_if w.from (2 ^ 32) small);
   records = weak_snoc sizes weak [] w are.records one;
 }
-
--- the same of factory bad superblocks
-bad_snoc : (sizes : Sizes) (xs pre : List (ℕ × ℕ)) (b : ℕ × ℕ) → are_bad_records sizes pre xs ≡ true → is_bad_record sizes (pre ++ xs) b ≡ true → are_bad_records sizes pre (xs ++ b ∷ []) ≡ true
-bad_snoc sizes [] pre b e f =
-    let here : is_bad_record sizes pre b ≡ true = ap (λ l. is_bad_record sizes l b) (sym (append-nil pre)) ∙ f in rw here refl
-bad_snoc sizes (x ∷ xs) pre b e f =
-    let both = both_of (is_bad_record sizes pre x) (are_bad_records sizes (pre ++ x ∷ []) xs) e in
-    let later = bad_snoc sizes xs (pre ++ x ∷ []) b both.1 (ap (λ l. is_bad_record sizes l b) (append_assoc pre (x ∷ []) xs) ∙ f) in
-    rw (both.0, later) refl
 
 pub bad_longer : (sizes : Sizes) (bad : List (ℕ × ℕ)) (n : ℕ) (b : ℕ × ℕ) → AreBad sizes n bad → IsTrue (is_bad_record sizes bad b) → AreBad sizes (n + 1) (bad ++ b ∷ [])
 bad_longer sizes bad n b are one = record {

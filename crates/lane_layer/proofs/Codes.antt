@@ -1,5 +1,5 @@
 -- What one code tells of its number: the sign, and how near the magnitude is to 127.
-use Rattle.std.proofs.Common.{◌≡◌, ℕ, zero, suc, ◌-◌, ◌*◌, ◌/◌, ◌^◌, ◌<◌, ◌≤◌, min, max, Bool, true, false, List, [], ◌∷◌, cond, leb, get_or, ℤ, pos, negsuc, unsigned_abs, inl, inr, All, refl, sym, ap, ◌∙◌, arith}
+use Rattle.std.proofs.Common.{◌≡◌, ℕ, zero, suc, ◌+◌, ◌%◌, ◌-◌, ◌*◌, ◌/◌, ◌^◌, ◌<◌, ◌≤◌, min, max, Bool, true, false, List, [], ◌∷◌, cond, leb, get_or, ℤ, pos, negsuc, unsigned_abs, inl, inr, All, refl, sym, ap, ◌∙◌, arith}
 use Rattle.std.specs.Int.Bits.{bit_xor}
 use Rattle.std.proofs.lemmas.Bool.{cases_lt, le-leb, lt-leb}
 use Rattle.std.proofs.lemmas.Bool.Decides.{nat_tests}
@@ -74,3 +74,6 @@ top_xor a b h k =
 pub told_code : (sign : Bool) (m : ℕ) → m ≤ 127 → number_of (cond sign (254 - (127 - 3 * m / 4)) (127 - 3 * m / 4)) ≡ signed sign (3 * m / 4)
 told_code true m h = omega (arith, ints)
 told_code false m h = omega (arith, ints)
+
+pub less : (c : ℕ) → c ≤ 254 → (254 + (256 - c)) % 256 ≡ 254 - c
+less c h = omega arith

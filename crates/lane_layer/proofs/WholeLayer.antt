@@ -12,7 +12,7 @@ use Rattle.ssd_geo.specs.LayerNumbers.{AreNumbersOf, IsLayer}
 use Rattle.ssd_geo.specs.RowRule.{IsWithin, row_rule, told_by}
 use Rattle.ssd_geo.proofs.DecodingBounds.{row_rule_within}
 use Rattle.ssd_geo.proofs.FoundWords.{length-placed, length-rows}
-use Rattle.ssd_geo.proofs.WorkedRows.{other_variable, row_given, worked_edge, worked_variable}
+use Rattle.ssd_geo.proofs.WorkedRows.{other_variable, row_given, worked_edge, worked_variable, length-row_edges, length-row_rule}
 use Rattle.minsum_layer.proofs.Gathered.{gathered, given_at, within_at}
 use Rattle.minsum_layer.proofs.Scattered.{sums_at}
 use Rattle.lane_layer.specs.Rows.{IsToldCode, TellRows, number_of, row_of}
@@ -126,15 +126,6 @@ all_by_edges P xs blocks z some long h = λ k d l.
     subst P (ap (λ (i : ℕ). get_or xs i 0) at.is ∙ get_or_default xs k 0 d l) (h at.e at.u at.in_layer at.in_row)
 
 -- ---- the layer
-length-row_rule : (q : List ℤ) → length (row_rule q) ≡ length q
-unfolding row_rule
-length-row_rule q = length-map-range_with_len (λ i. told_by (remove q i)) 0 (length q)
-
-length-edges : (layer : List (ℕ × ℕ)) (z n : ℕ) (s : List ℤ × List ℤ) → length (rows_worked layer z n s).1 ≡ length s.1
-unfolding row_worked
-length-edges layer z zero s = refl
-length-edges layer z (suc n) s = length-placed (rows_worked layer z n s).1 (edges_of (length layer) z n) _ ∙ length-edges layer z n s
-
 edge_sum : (given told : List ℕ) (z degree e u : ℕ) → TellRows given z degree told z → e < degree → u < z
     → number_of (get_or given (e * z + u) 0) +ℤ number_of (get_or told (e * z + u) 0) ≡ get_or (sums_of (row_of given z u degree) (row_rule (row_of given z u degree))) e (pos 0)
 edge_sum given told z degree e u tells in_layer in_row =
@@ -174,7 +165,7 @@ layer_is_worked z layer p r p' r' given told h numbers in_p in_r rows tells vari
           ∙ ap (λ (i : ℕ). get_or after.0 i (pos 0)) at.is
       | inr none ↦ others k none ∙ sym (other_variable layer z z s k (λ t e m n. none e t n m))
     ]) in
-    let second : r' ≡ after.1 = ext_get_or (pos 0) r' after.1 (in_r ∙ sym (length-edges layer z z s))
+    let second : r' ≡ after.1 = ext_get_or (pos 0) r' after.1 (in_r ∙ sym (length-row_edges layer z z s))
     (λ k l.
     let at = edge_of (length layer) z k some (omega (arith, numbers.edges)) in
     ap (λ (i : ℕ). get_or r' i (pos 0)) (sym at.is)

@@ -1,4 +1,3 @@
 pub mod Found
 pub mod LayerSteps
 pub mod Packing
-pub mod Words

@@ -11,10 +11,11 @@ use Rattle.std.proofs.lemmas.Nat.{div-mul-add, mod-mul-add, mul-add-lt}
 use Rattle.ssd_geo.specs.Bits.{bit_sum}
 use Rattle.ssd_geo.specs.BaseMatrix.{BaseMatrix, IsAccepted, breaks_parity_column, diagonal, diagonal_entry, entry_at, has_middle_before, is_entry_in_range, layer_of, message_columns, parity_column, parity_entry, zero_block}
 use Rattle.ssd_geo.specs.Codewords.{shift_of}
-use Rattle.qc_matrix.proofs.Accepted.{entry-in_range, no-column_fault, no-diagonal_fault, none-mapped}
+use Rattle.qc_matrix.proofs.Accepted.{entry-in_range}
 use Rattle.qc_matrix.proofs.Find.{none-find}
 use Rattle.ssd_bits.proofs.Words.{bit_sum-false}
 use Rattle.ldpc_encode.proofs.Sums.{at_entry, only_at, sum_blocks, sum_blocks-columns, sum_over, sum_over-add, sum_over-moved, sum_over-only, sum_over-only_outside, sum_over-same, sum_over-split}
+use Rattle.ssd_geo.proofs.AcceptedLayers.{column_ok, diagonal_ok, none_under}
 
 int-true : (x y : ℤ) → int_eq x y ≡ true → x ≡ y
 int-true x y h = (signed_Decides x y).0 h
@@ -54,7 +55,7 @@ module _ (m : BaseMatrix) (ok : IsAccepted m) where
   -- no row breaks the form of the first parity column
   row-kept : (i : ℕ) → i < m.mb → breaks_parity_column m i ≡ false
   row-kept i h =
-      none-find (breaks_parity_column m) 0 m.mb i (none-mapped parity_column (find (breaks_parity_column m) (range_with_len 0 m.mb)) (no-column_fault m ok))
+      none-find (breaks_parity_column m) 0 m.mb i (none_under parity_column (find (breaks_parity_column m) (range_with_len 0 m.mb)) (column_ok m ok))
       (omega arith) (omega arith)
 
   -- the first row has a shift there
@@ -123,7 +124,7 @@ module _ (m : BaseMatrix) (ok : IsAccepted m) where
       let w : ℕ = m.mb - 1 in
       let test : ℕ → Bool = λ j. not (int_eq (entry_at m (j / w) (message_columns m + 1 + j % w)) (diagonal_entry (j / w) (1 + j % w))) in
       let none : find test (range_with_len 0 (m.mb * w)) ≡ None =
-      none-mapped (λ j. diagonal (j / w) (message_columns m + 1 + j % w)) (find test (range_with_len 0 (m.mb * w))) (no-diagonal_fault m ok) in
+      none_under (λ j. diagonal (j / w) (message_columns m + 1 + j % w)) (find test (range_with_len 0 (m.mb * w))) (diagonal_ok m ok) in
       let place : i * w + k < m.mb * w = subst (λ (n : ℕ). i * w + k < n) (mul_comm w m.mb) (mul-add-lt i w k m.mb row column) in
       let fails : test (i * w + k) ≡ false = none-find test 0 (m.mb * w) (i * w + k) none (omega arith) (omega arith) in
       let q : (i * w + k) / w ≡ i = div-mul-add i w k column in

@@ -6,6 +6,7 @@ use Rattle.ssd_histories.specs.PageMap.{NameApart, names_slot, owner_of, row_at}
 use Rattle.ssd_geo.specs.declared.row.Row.{Row}
 use Rattle.ssd_geo.specs.declared.row.Row.TheVariants.{Empty}
 use Rattle.ssd_geo.specs.declared.slot.Slot.{Slot}
+use Rattle.shared_lemmas.proofs.Positions.{placed}
 
 -- a row that names a slot is in the page map
 named_in_range : (rows : List Row) (slot : Slot) (row : ℕ) → IsTrue (names_slot slot (row_at rows row)) → row < length rows
@@ -18,14 +19,11 @@ fails : (b : Bool) → (IsTrue b → ⊥) → b ≡ false
 fails true h = absurd (h refl)
 fails false h = refl
 
-found : {X : Type 0} (p : X → Bool) (xs : List X) (i : ℕ) → position_or_len p xs ≡ i → i < length xs → position p xs ≡ Some i
-found p xs i e lt = grind (arith, e, lt)
-
 pub owner_only : (rows : List Row) (slot : Slot) (row : ℕ) → NameApart rows → IsTrue (names_slot slot (row_at rows row))
     → owner_of rows slot ≡ Some row
 owner_only rows slot row apart named =
     let lt = named_in_range rows slot row named in
-    found (names_slot slot) rows row
+    placed (names_slot slot) rows row
     (position_or_len_is (names_slot slot) rows row Empty (omega arith)
     (λ k below. fails (names_slot slot (row_at rows k)) (λ h. let e = apart slot k row h named in omega arith))
     (λ _. named))

@@ -6,6 +6,7 @@ use Rattle.ssd_histories.specs.PageMap.{is_slot, names_slot, names_within, NameA
 use Rattle.ssd_geo.specs.declared.row.Row.{Row}
 use Rattle.ssd_geo.specs.declared.row.Row.TheVariants.{Empty, Lost, Page}
 use Rattle.ssd_geo.specs.declared.slot.Slot.{Slot}
+use Rattle.ssd_histories.proofs.SameSlots.{slots_agree}
 
 -- what a row holds after one row was set
 row_at-set : (rows : List Row) (row k : ℕ) (to : Row) → row < length rows
@@ -21,14 +22,6 @@ pub within-set : (superblocks slots : ℕ) (rows : List Row) (row : ℕ) (to : R
     → NameWithin superblocks slots (set rows row to)
 within-set superblocks slots rows row to lt old new k =
     elim (row_at-set rows row k to lt) [ inl h ↦ rw h.1 new | inr h ↦ rw h.1 (old k) ]
-
--- two slots that are tested to be one are equal
-slots_agree : (slot other : Slot) → is_slot slot other ≡ true → slot ≡ other
-slots_agree slot other h =
-    let parts = and_parts (slot.sb == other.sb) (slot.index == other.index) h in
-    let sb : slot.sb ≡ other.sb = eqb-true slot.sb other.sb parts.0 in
-    let index : slot.index ≡ other.index = eqb-true slot.index other.index parts.1 in
-    ap (λ a. slot_at a slot.index) sb ∙ ap (λ b. slot_at other.sb b) index
 
 -- where a row's new value names a slot, no other row names it
 named_once : (rows : List Row) (row k : ℕ) (slot : Slot) (to : Row) → NoOtherNames rows row to

@@ -1,8 +1,8 @@
 ghost use Rattle.std.specs.Prelude.{◌≡◌, ℕ, ◌<◌, ◌↔◌, IfOk, IfSome, IsNone, IsSome, IsTrue, Some, filter_map, length, min, replicate, slice_set, unwrap_or};
-ghost use Rattle.ssd_histories.specs.PageMap.{first_live_in, index_in, least_of, live_in, names_slot, names_superblock, names_within, NoOtherNames, owner_of, row_at};
+ghost use Rattle.ssd_histories.specs.PageMap.{first_live_in, index_in, least_of, live_in, NameApart, names_slot, names_superblock, names_within, NameWithin, NoOtherNames, owner_of, row_at};
 ghost use Rattle.ssd_geo.specs.declared.row.Row.TheVariants.{Empty};
 
-use ssd_geo::{Memory, Row, Slot};
+use ssd_geo::{Items, Memory, Row, Slot};
 use std::alloc::Global;
 use std::marker::Model;
 
@@ -99,6 +99,16 @@ impl Rows {
             Some(index) => Some(Slot { sb, index }),
             None => None,
         }
+    }
+
+    /// Gives the rows back.
+    pub fn into_items(self) -> Items<Row>
+        ensures value { result ≡ self.rows }
+        ensures within { NameWithin self.superblocks self.slots self.rows }
+        ensures apart { NameApart self.rows }
+    {
+        let Rows { rows, .. } = self;
+        Items::new(rows)
     }
 }
 

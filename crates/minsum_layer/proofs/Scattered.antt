@@ -22,14 +22,3 @@ sums_at [] told e h k = absurd (omega arith)
 sums_at (g ∷ given) [] e h k = absurd (omega arith)
 sums_at (g ∷ given) (t ∷ told) zero h k = refl
 sums_at (g ∷ given) (t ∷ told) (suc e) h k = sums_at given told e (omega arith) (omega arith)
-
-pub length-sums_of : (given told : List ℤ) → length given ≡ length told → length (sums_of given told) ≡ length given
-length-sums_of [] told h = refl
-length-sums_of (g ∷ given) [] h = absurd (omega arith)
-length-sums_of (g ∷ given) (t ∷ told) h = ap suc (length-sums_of given told (omega arith))
-
-pub variable_place : (layer : List (ℕ × ℕ)) (z t e : ℕ) → e < length layer → get_or (variables_of layer z t) e 0 ≡ variable_of z t (get_or layer e (0, 0))
-variable_place layer z t e h = get_or-map (variable_of z t) layer e (0, 0) 0 h
-
-pub edge_place : (blocks z t e : ℕ) → e < blocks → get_or (edges_of blocks z t) e 0 ≡ e * z + t
-edge_place blocks z t e h = get_or-map-range_with_len (λ k. k * z + t) 0 blocks e e 0 h (omega arith)

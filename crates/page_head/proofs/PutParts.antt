@@ -8,6 +8,7 @@ use Rattle.std.proofs.lemmas.Slice.{between-put_mid, between_is, between_to_end,
 use Rattle.ssd_geo.specs.Limits.{Sizes, code_bytes_of, parity_bytes_of, part_bytes_of, payload_bytes_of, word_bytes_of}
 use Rattle.ssd_geo.specs.PageWord.{code_in, parity_in, part_in}
 use borrow.Rule.Slice.PartMut.{put_mid}
+use Rattle.ssd_geo.proofs.PageWords.{next_piece}
 
 -- a range of what was put, and one that lies before it or behind it
 range_put : (a k i j : ℕ) (xs ys : List ℕ) → a + k ≤ length xs → length ys ≡ k → i ≡ a → j ≡ a + k → slice_range (put_mid a k xs ys) i j ≡ ys
@@ -37,19 +38,15 @@ length_put a k xs ys within as_long =
       length-drop a xs,
     )
 
--- the end of a piece of n items
-piece_end : (f n : ℕ) → (f + 1) * n ≡ f * n + n
-piece_end f n = omega arith
-
 -- a piece ends no later than a later one begins
 pieces_in_order : (f p n : ℕ) → f < p → f * n + n ≤ p * n
-pieces_in_order f p n before = omega (arith, piece_end f n, mul-le (f + 1) n p n (omega arith) (omega arith))
+pieces_in_order f p n before = omega (arith, next_piece f n, mul-le (f + 1) n p n (omega arith) (omega arith))
 
 -- another piece ends before it or begins behind it
 pieces_apart : (at f p n a k i j : ℕ) → f ≢ p → a ≡ at + p * n → k ≡ n → i ≡ at + f * n → j ≡ at + (f + 1) * n → (j ≤ a) ⊎ (a + k ≤ i)
 pieces_apart at f p n a k i j other a_is k_is i_is j_is =
     elim (cases_lt f p) [
-      | inl before ↦ inl (omega (arith, piece_end f n, pieces_in_order f p n before))
+      | inl before ↦ inl (omega (arith, next_piece f n, pieces_in_order f p n before))
       | inr after ↦ inr (omega (arith, pieces_in_order p f n (omega arith)))
     ]
 
@@ -128,13 +125,13 @@ put_is_there sizes p a k b l word part parity put =
     let lies : LieWithin a k b l (payload_bytes_of sizes) word part = lie_within sizes p a k b l word part parity put in
     let part_is : part_in sizes (put_mid b l first parity) p ≡ part =
     range_beside b l (p * m) ((p + 1) * m) first parity lies.parity_within (put.parity_bytes ∙ sym put.parity_width)
-    (inl (omega (arith, piece_end p m, lies.in_payload, lies.behind_payload, put.part_from, put.part_width)))
+    (inl (omega (arith, next_piece p m, lies.in_payload, lies.behind_payload, put.part_from, put.part_width)))
     ∙ range_put a k (p * m) ((p + 1) * m) word part lies.part_within (put.part_bytes ∙ sym put.part_width)
-    (sym put.part_from) (omega (arith, piece_end p m, put.part_from, put.part_width)) in
+    (sym put.part_from) (omega (arith, next_piece p m, put.part_from, put.part_width)) in
     let parity_is : parity_in sizes (put_mid b l first parity) p ≡ parity =
     range_put b l (payload_bytes_of sizes + p * n) (payload_bytes_of sizes + (p + 1) * n) first parity
     lies.parity_within (put.parity_bytes ∙ sym put.parity_width) (sym put.parity_from)
-    (omega (arith, piece_end p n, put.parity_from, put.parity_width)) in
+    (omega (arith, next_piece p n, put.parity_from, put.parity_width)) in
     ap (λ (xs : List ℕ). xs ++ parity_in sizes (put_mid b l first parity) p) part_is
     ∙ ap (λ (xs : List ℕ). part ++ xs) parity_is
 
@@ -151,7 +148,7 @@ others_stay sizes p a k b l word part parity put f below other =
     let its : StandsWithin sizes f = stands_within sizes f put.fits below in
     let part_is : part_in sizes (put_mid b l first parity) f ≡ part_in sizes word f =
     range_beside b l (f * m) ((f + 1) * m) first parity lies.parity_within (put.parity_bytes ∙ sym put.parity_width)
-    (inl (omega (arith, piece_end f m, its.part, lies.behind_payload)))
+    (inl (omega (arith, next_piece f m, its.part, lies.behind_payload)))
     ∙ range_beside a k (f * m) ((f + 1) * m) word part lies.part_within (put.part_bytes ∙ sym put.part_width)
     (pieces_apart 0 f p m a k (f * m) ((f + 1) * m) other (omega (arith, put.part_from)) put.part_width (omega arith) (omega arith)) in
     let parity_is : parity_in sizes (put_mid b l first parity) f ≡ parity_in sizes word f =

@@ -9,13 +9,7 @@ use Rattle.ssd_histories.specs.SerialCalls.{AreStepsFrom, IsSerialCopy, RoundEnd
 use Rattle.ssd_geo.specs.declared.base.ChannelBase.{ChannelBase}
 use Rattle.ssd_geo.specs.declared.entry.Entry.{Entry}
 use Rattle.ssd_geo.specs.declared.tag.Tag.{Tag}
-
--- each step is one entry
-steps_add : (tag : Tag) (before after : List Entry) (steps : List CallStep) → AreStepsFrom tag before steps after →
-    length after ≡ length before + length steps
-steps_add tag before after [] made = let same = ap length made in omega arith
-steps_add tag before after (step ∷ steps) made =
-    let rest = steps_add tag (step.entry ∷ before) after steps made.2 in omega arith
+use Rattle.ssd_histories.proofs.CountedSteps.{steps_long}
 
 module _ (ladder : List Entry → ℕ → LadderState) (base : ChannelBase) (tag : Tag) where
   copy_adds : (before after : List Entry) (ends fault : Bool) → IsSerialCopy ladder base tag before after ends fault →
@@ -23,7 +17,7 @@ module _ (ladder : List Entry → ℕ → LadderState) (base : ChannelBase) (tag
   copy_adds before after ends fault copy =
       let made = copy.is_copy.is_copy in
       let list = made.is_list in
-      let added = steps_add tag before after copy.steps copy.are_steps in
+      let added = steps_long tag before after copy.steps copy.are_steps in
       let same = ap length list.are_steps in
       let outer = length-append ((copy.is_copy.look ∷ list.senses) ++ made.ending ∷ []) (made.leave ∷ []) in
       let inner = length-append (copy.is_copy.look ∷ list.senses) (made.ending ∷ []) in

@@ -8,6 +8,7 @@ use Rattle.std.proofs.Math.Nat.{mul_comm}
 use Rattle.std.proofs.lemmas.Nat.{div-mul-add, mod-mul-add, mul-add-lt}
 use Rattle.ssd_geo.specs.BaseMatrix.{BaseMatrix, IsAccepted, block_of_entry, column_fault, diagonal_fault, entry_at, entry_range, is_entry_in_range, layer_of, range_fault}
 use Rattle.qc_matrix.proofs.Find.{none-find}
+use Rattle.ssd_geo.proofs.AcceptedLayers.{range_ok, none_under}
 
 -- the first of two is none only where both are
 or-none : {X : Type 0} (o p : Option X) → is_none (option_or o p) ≡ true → (o ≡ None) × (is_none p ≡ true)
@@ -18,23 +19,6 @@ none-is : {X : Type 0} (o : Option X) → is_none o ≡ true → o ≡ None
 none-is None h = refl
 none-is (Some x) h = absurd (let e : false ≡ true = h in cc)
 
-pub none-mapped : {X Y : Type 0} (f : X → Y) (o : Option X) → option_map f o ≡ None → o ≡ None
-none-mapped f None h = refl
-none-mapped f (Some x) h = absurd (let e : Some (f x) ≡ None = h in cc)
-
--- no test finds a fault
-pub no-range_fault : (m : BaseMatrix) → IsAccepted m → range_fault m ≡ None
-no-range_fault m ok = (or-none (range_fault m) (option_or (column_fault m) (diagonal_fault m)) ok.faultless).0
-
-pub no-column_fault : (m : BaseMatrix) → IsAccepted m → column_fault m ≡ None
-no-column_fault m ok =
-    (or-none (column_fault m) (diagonal_fault m) (or-none (range_fault m) (option_or (column_fault m) (diagonal_fault m)) ok.faultless).1).0
-
-pub no-diagonal_fault : (m : BaseMatrix) → IsAccepted m → diagonal_fault m ≡ None
-no-diagonal_fault m ok =
-    none-is (diagonal_fault m)
-    (or-none (column_fault m) (diagonal_fault m) (or-none (range_fault m) (option_or (column_fault m) (diagonal_fault m)) ok.faultless).1).1
-
 placed : (m : BaseMatrix) (i j : ℕ) → i < m.mb → j < m.nb → i * m.nb + j < m.mb * m.nb
 placed m i j row column = subst (λ (n : ℕ). i * m.nb + j < n) (mul_comm m.nb m.mb) (mul-add-lt i m.nb j m.mb row column)
 
@@ -43,7 +27,7 @@ pub entry-in_range : (m : BaseMatrix) (i j : ℕ) → IsAccepted m → i < m.mb 
 entry-in_range m i j ok row column =
     let test : ℕ → Bool = λ k. not (is_entry_in_range m.z (entry_at m (k / m.nb) (k % m.nb))) in
     let none : find test (range_with_len 0 (m.mb * m.nb)) ≡ None =
-    none-mapped (λ k. entry_range (k / m.nb) (k % m.nb)) (find test (range_with_len 0 (m.mb * m.nb))) (no-range_fault m ok) in
+    none_under (λ k. entry_range (k / m.nb) (k % m.nb)) (find test (range_with_len 0 (m.mb * m.nb))) (range_ok m ok) in
     let fails : test (i * m.nb + j) ≡ false =
     none-find test 0 (m.mb * m.nb) (i * m.nb + j) none (omega arith)
     (let e : i * m.nb + j < m.mb * m.nb = placed m i j row column in let g : i * m.nb + j < 0 + m.mb * m.nb = omega arith in g) in

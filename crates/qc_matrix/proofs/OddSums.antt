@@ -13,6 +13,7 @@ use Rattle.ssd_bits.specs.Runs.{AddsRotated}
 use Rattle.std.specs.Int.{bit_at}
 use Rattle.std.proofs.lemmas.Nat.Bits.{bit_at-zero}
 use Rattle.std.proofs.lemmas.Nat.{mod_below}
+use Rattle.shared_lemmas.proofs.Lists.{sum_by-range_more}
 
 pub bit_sum-assoc : (a b c : Bool) → bit_sum (bit_sum a b) c ≡ bit_sum a (bit_sum b c)
 bit_sum-assoc true true true = refl
@@ -45,13 +46,6 @@ is_odd_sum-more bits layer z r k d h =
 -- a bit of the first n bits
 pub bits_of-at : (n : ℕ) (bytes : List ℕ) (v : ℕ) → v < n → slice_index_or (bits_of n bytes) v false ≡ bit_of bytes v
 bits_of-at n bytes v h = get_or-map-range_with_len (bit_of bytes) 0 n v v false h (omega arith)
-
--- a sum over a range, with one more number
-pub sum_by-range_more : (f : ℕ → ℕ) (n : ℕ) → sum_by f (range_with_len 0 (n + 1)) ≡ sum_by f (range_with_len 0 n) + f n
-sum_by-range_more f n =
-    let range : range_with_len 0 (n + 1) ≡ range_with_len 0 n ++ n ∷ [] =
-    sym (map-id (range_with_len 0 (n + 1))) ∙ map-range_with_len_more (λ k. k) 0 n n (omega arith) ∙ ap (λ (xs : List ℕ). xs ++ n ∷ []) (map-id (range_with_len 0 n)) in
-    ap (sum_by f) range ∙ sum_by_push f (range_with_len 0 n) n
 
 -- the numbers of a range that pass are counted one by one
 pub count_by-range : (test : ℕ → Bool) (n : ℕ) → count_by test (range_with_len 0 n) ≡ count_to test n

@@ -20,15 +20,11 @@ use Rattle.calls_among_others.specs.Parts.{IsRefreshAmong}
 use Rattle.calls_among_others.specs.StepsAmong.{AreStepsAmong}
 use Rattle.calls_among_others.proofs.AmongSteps.{among_join}
 use Rattle.race_laws.specs.Drains.{AreRefreshedAmong, DrainsAmongAreDrains}
+use Rattle.serial_laws.proofs.MadeDrains.{faultless_front}
 
 -- the steps of some refreshes, one after the other
 abbrev pub all_steps : List (List CallStep) → List CallStep
 all_steps refreshes = flat_map (λ refresh. refresh) refreshes
-
-faultless_front : (part : List CallStep) (parts : List (List CallStep)) → has_fault part ≡ false →
-    is_faultless_before_last parts ≡ true → is_faultless_before_last (part ∷ parts) ≡ true
-faultless_front part [] none rest = refl
-faultless_front part (next ∷ parts) none rest = rw none rest
 
 -- only the last of more pages may tell of a failed call
 first_is_none : (first next : ℕ × RefreshReply) (pages : List (ℕ × RefreshReply)) →

@@ -21,7 +21,6 @@ use Rattle.ssd_histories.specs.CallsInOrder.{AreStepsOf}
 use Rattle.ssd_histories.specs.History.{is_same_tag, open_looks}
 use Rattle.ssd_histories.specs.Lawful.{IsLawful}
 use Rattle.ssd_histories.specs.Start.{Start}
-use Rattle.serial_laws.proofs.Lists.{same_number}
 use Rattle.calls_among_others.specs.CallsAmong.{ladders}
 use Rattle.calls_among_others.specs.StepsAmong.{AreStepsAmong, HasCome}
 use Rattle.calls_among_others.proofs.AmongCopies.{came}
@@ -31,6 +30,7 @@ use Rattle.calls_among_others.proofs.LookSteps.{made_step}
 use Rattle.race_laws.specs.BegunCalls.{AgesStopBegun, HasLeftAll, IsBegunAmong, ReadsStopBegun, RefreshesStopBegun, TrimsStopBegun}
 use Rattle.race_laws.proofs.BalancedLooks.{AreBalanced}
 use Rattle.race_laws.proofs.LookCounts.{counts_among, none_open}
+use Rattle.shared_lemmas.proofs.Tests.{same_number}
 
 -- a step that was refused adds nothing
 pub refused_came : {A : Type 0} (has_room : ℕ → List Entry → Type 0) (makes : List Entry → A → List Entry → Type 0) (tag : Tag)

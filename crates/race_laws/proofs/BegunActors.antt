@@ -15,19 +15,21 @@ use Rattle.ssd_histories.specs.CallsInOrder.{AreStepsOf, is_no_later, is_of_call
 use Rattle.ssd_histories.specs.History.{is_same_tag}
 use Rattle.ssd_histories.specs.Lawful.{IsLawful}
 use Rattle.ssd_histories.specs.Start.{Start}
-use Rattle.serial_laws.proofs.Lists.{all_both, not_true}
+use Rattle.serial_laws.proofs.Lists.{all_both}
 use Rattle.serial_laws.proofs.LookLists.{by_kind, no_more_than_any}
 use Rattle.serial_laws.proofs.MadeSteps.{faults_in}
-use Rattle.serial_laws.proofs.NumberedTags.{same_parts, same_tag}
 use Rattle.calls_among_others.specs.ActorsCalls.{AreAsked, AreMadeAmong, IsAsked, first_tag, is_known_of, never_falls_for, next_tag}
 use Rattle.calls_among_others.specs.CallsAmong.{DecideReply, ladders}
 use Rattle.calls_among_others.specs.StepsAmong.{AreStepsAmong, HasCome}
-use Rattle.calls_among_others.proofs.ActorsSteps.{calls_are_asked}
-use Rattle.calls_among_others.proofs.AmongSteps.{IsOfOther, or_first, or_second, steps_are_all}
+use Rattle.calls_among_others.proofs.ActorsSteps.{calls_are_asked, order_came}
+use Rattle.calls_among_others.proofs.AmongSteps.{IsOfOther, steps_are_all}
 use Rattle.race_laws.specs.BegunCalls.{AreMadeThenBegun, BegunActorsAreSoFar}
 use Rattle.race_laws.specs.Races.{IsBegunThere}
 use Rattle.race_laws.proofs.PlacedCalls.{all_weaker, known_weaker}
 use Rattle.race_laws.proofs.UnbegunActors.{none_open}
+use Rattle.std.proofs.lemmas.Bool.{false_from_ne_true, or_left, or_right}
+use Rattle.ssd_histories.proofs.SameTags.{same_parts, same_tag}
+use Rattle.serial_laws.proofs.GrownPasts.{no_later_itself}
 
 -- a test that passes at each entry of another actor passes at all entries of a past, if it did before others came, and after
 -- the steps of calls whose entries pass
@@ -59,48 +61,26 @@ module _ (test : Entry → Bool) (actor : ℕ) (of_other : (entry : Entry) → e
 no_later_other : (tag : Tag) (entry : Entry) → entry.tag.actor ≢ tag.actor → is_no_later tag entry ≡ true
 no_later_other tag entry other =
     ap (λ (b : Bool). not b || nat_le entry.tag.call tag.call)
-    (not_true (entry.tag.actor == tag.actor) (λ same. other (eqb-true entry.tag.actor tag.actor same)))
+    (false_from_ne_true (entry.tag.actor == tag.actor) (λ same. other (eqb-true entry.tag.actor tag.actor same)))
 
 no_later_low : (tag : Tag) (entry : Entry) → entry.tag.call ≤ tag.call → is_no_later tag entry ≡ true
 no_later_low tag entry low =
-    or_second (not (entry.tag.actor == tag.actor)) (nat_le entry.tag.call tag.call) (grind (arith, nat_tests, low))
-
-no_later_own : (tag : Tag) (entry : Entry) → entry.tag ≡ tag → is_no_later tag entry ≡ true
-no_later_own tag entry own =
-    let same : entry.tag.call ≡ tag.call = ap (λ (t : Tag). t.call) own in no_later_low tag entry (omega (arith, same))
-
--- numbers that never fall before don't after
-falls_others : (actor : ℕ) (others before : List Entry) → All (IsOfOther actor) others → never_falls_for actor before ≡ true →
-    never_falls_for actor (others ++ before) ≡ true
-falls_others actor [] before all order = order
-falls_others actor (entry ∷ others) before all order =
-    let other : (entry.tag.actor == actor) ≡ false =
-    not_true (entry.tag.actor == actor)
-    (λ same. All-head (IsOfOther actor) entry others all (eqb-true entry.tag.actor actor same)) in
-    ap (λ (b : Bool). (not b || list_all (is_no_later entry.tag) (others ++ before))
-    && never_falls_for actor (others ++ before)) other
-    ∙ falls_others actor others before (All-tail (IsOfOther actor) entry others all) order
-
-falls_came : (actor : ℕ) (before after : List Entry) → HasCome actor before after → never_falls_for actor before ≡ true →
-    never_falls_for actor after ≡ true
-falls_came actor before after come order =
-    subst (λ (past : List Entry). never_falls_for actor past ≡ true) (sym come.after_is)
-    (falls_others actor come.others before come.of_others order)
+    or_right (not (entry.tag.actor == tag.actor)) (nat_le entry.tag.call tag.call) (grind (arith, nat_tests, low))
 
 falls_steps : (tag : Tag) (before after : List Entry) (steps : List CallStep) → AreStepsAmong tag before steps after →
     list_all (is_no_later tag) before ≡ true → never_falls_for tag.actor before ≡ true → never_falls_for tag.actor after ≡ true
-falls_steps tag before after [] come low order = falls_came tag.actor before after come order
+falls_steps tag before after [] come low order = order_came tag.actor before after come order
 falls_steps tag before after (step ∷ steps) made low order =
     let here : list_all (is_no_later tag) step.past ≡ true =
     came_passes (is_no_later tag) tag.actor (no_later_other tag) before step.past made.0 low in
     let own : list_all (is_no_later step.entry.tag) step.past ≡ true =
     subst (λ (t : Tag). list_all (is_no_later t) step.past ≡ true) (sym made.1) here in
-    let later : list_all (is_no_later tag) (step.entry ∷ step.past) ≡ true = rw (no_later_own tag step.entry made.1) here in
+    let later : list_all (is_no_later tag) (step.entry ∷ step.past) ≡ true = rw (no_later_itself tag step.entry made.1) here in
     falls_steps tag (step.entry ∷ step.past) after steps made.2 later
     (ap (λ (b : Bool). (not (step.entry.tag.actor == tag.actor) || b) && never_falls_for tag.actor step.past) own
     ∙ ap (λ (b : Bool). b && never_falls_for tag.actor step.past)
-    (or_second (not (step.entry.tag.actor == tag.actor)) true refl)
-    ∙ falls_came tag.actor before step.past made.0 order)
+    (or_right (not (step.entry.tag.actor == tag.actor)) true refl)
+    ∙ order_came tag.actor before step.past made.0 order)
 
 -- the tags of the calls that an actor made
 abbrev HasTagBelow : ℕ → ℕ → TraceCall × Reply → Type 0
@@ -153,7 +133,7 @@ module _ (start : Start) (contents : List (Tag × List ℕ)) (channels channel a
   keeps : (tag : Tag) → tag.actor ≡ actor → (tag.call ≡ call.tag.call → ⊥) → steps_of tag past ≡ steps_of tag made.between
   keeps tag same differs =
       (steps_are_all call.tag made.between past made.begun.steps made.begun.are_steps).no_other_call tag (same ∙ sym own)
-      (not_true (is_same_tag tag call.tag) (λ one. differs (same_parts tag call.tag one).1))
+      (false_from_ne_true (is_same_tag tag call.tag) (λ one. differs (same_parts tag call.tag one).1))
 
   none_before : steps_of call.tag made.between ≡ []
   none_before = asked.none_later call.tag own (omega (arith, number))
@@ -200,17 +180,17 @@ module _ (start : Start) (contents : List (Tag × List ℕ)) (channels channel a
   known_own : (entry : Entry) → entry.tag ≡ call.tag →
       is_known_of actor (map (λ one. one.0) answered ++ call ∷ []) entry ≡ true
   known_own entry same =
-      or_second (not (entry.tag.actor == actor)) (is_of_call (map (λ one. one.0) answered ++ call ∷ []) entry)
+      or_right (not (entry.tag.actor == actor)) (is_of_call (map (λ one. one.0) answered ++ call ∷ []) entry)
       (list_any-append (λ (other : TraceCall). is_same_tag other.tag entry.tag) (map (λ one. one.0) answered) (call ∷ [])
-      ∙ or_second (is_of_call (map (λ one. one.0) answered) entry) (is_of_call (call ∷ []) entry)
-      (or_first (is_same_tag call.tag entry.tag) false
+      ∙ or_right (is_of_call (map (λ one. one.0) answered) entry) (is_of_call (call ∷ []) entry)
+      (or_left (is_same_tag call.tag entry.tag) false
       (subst (λ (t : Tag). is_same_tag call.tag t ≡ true) (sym same) (same_tag call.tag))))
 
   known_other : (entry : Entry) → entry.tag.actor ≢ actor →
       is_known_of actor (map (λ one. one.0) answered ++ call ∷ []) entry ≡ true
   known_other entry other =
       ap (λ (b : Bool). not b || is_of_call (map (λ one. one.0) answered ++ call ∷ []) entry)
-      (not_true (entry.tag.actor == actor) (λ same. other (eqb-true entry.tag.actor actor same)))
+      (false_from_ne_true (entry.tag.actor == actor) (λ same. other (eqb-true entry.tag.actor actor same)))
 
   known : list_all (is_known_of actor (map (λ one. one.0) answered ++ call ∷ [])) past ≡ true
   known =
@@ -222,7 +202,7 @@ module _ (start : Start) (contents : List (Tag × List ℕ)) (channels channel a
       known_weaker actor (map (λ one. one.0) answered) (map (λ one. one.0) answered ++ call ∷ []) entry
       (λ is.
       list_any-append (λ (other : TraceCall). is_same_tag other.tag entry.tag) (map (λ one. one.0) answered) (call ∷ [])
-      ∙ or_first (is_of_call (map (λ one. one.0) answered) entry) (is_of_call (call ∷ []) entry) is))
+      ∙ or_left (is_of_call (map (λ one. one.0) answered) entry) (is_of_call (call ∷ []) entry) is))
       made.between asked.known)
 
   in_order : never_falls_for actor past ≡ true

@@ -18,7 +18,6 @@ use Rattle.collector.specs.Collects.{HasNoted, LeavesOff, LeavesRounds, MakesCol
 use Rattle.collector.specs.Collects as collects
 use Rattle.collector.specs.Emptying.{having_seen}
 use Rattle.collector.specs.declared.replies.RoundReply.TheVariants as round
-use Rattle.serial_laws.proofs.Lists.{neither}
 use Rattle.serial_laws.proofs.LookLists.{by_kind}
 use Rattle.serial_laws.proofs.MadeRounds.{none_in_both}
 use Rattle.calls_among_others.specs.CallsAmong.{ladders}
@@ -26,12 +25,13 @@ use Rattle.calls_among_others.specs.StepsAmong.{AreStepsAmong, HasCome}
 use Rattle.calls_among_others.proofs.AmongCopies.{came, one_made}
 use Rattle.calls_among_others.proofs.AmongHosts.{own_steps}
 use Rattle.calls_among_others.proofs.AmongRounds.{RoundMade, round_made}
-use Rattle.calls_among_others.proofs.AmongSteps.{among_join, or_first, or_second}
+use Rattle.calls_among_others.proofs.AmongSteps.{among_join}
 use Rattle.calls_among_others.proofs.LookSteps.{made_step}
 use Rattle.race_laws.specs.BegunCalls.{CollectsStopBegun}
 use Rattle.race_laws.proofs.AmongStops.{all_left, refused_came}
 use Rattle.race_laws.proofs.BalancedLooks.{AreBalanced, balanced_join, left_round_balanced, round_balanced}
 use Rattle.race_laws.proofs.BegunRounds.{RoundBegun, round_begun}
+use Rattle.std.proofs.lemmas.Bool.{or_parts, or_left, or_right}
 
 module _ (start : Start) (contents : List (Tag × List ℕ)) (caller : CallerView) (tag : Tag) where
   -- what a collect that stopped made, or what of it is left
@@ -84,7 +84,7 @@ module _ (start : Start) (contents : List (Tag × List ℕ)) (caller : CallerVie
       let erases : has_erase last ≡ true =
       list_any-append (λ (step : CallStep). is_erase_or_bad_erase step.entry.kind) begun.steps
       (made_step tag (Kind.Erase 0) [] ∷ [])
-      ∙ or_second (has_erase begun.steps) true refl in
+      ∙ or_right (has_erase begun.steps) true refl in
       record {
         steps = begun.steps;
         rest = made_step tag (Kind.Erase 0) [] ∷ [];
@@ -96,7 +96,7 @@ module _ (start : Start) (contents : List (Tag × List ℕ)) (caller : CallerVie
           are_parts = All-nil (IsLeftRound (ladders start contents) start.base);
           ends = inl (record {
             is_round = begun.then_erase (made_step tag (Kind.Erase 0) []) refl;
-            is_done = or_first (has_erase last) (has_fault last) erases;
+            is_done = or_left (has_erase last) (has_fault last) erases;
           });
         };
         no_fault = begun.no_fault;
@@ -110,7 +110,7 @@ module _ (start : Start) (contents : List (Tag × List ℕ)) (caller : CallerVie
   left_round before left made note is =
       let no_fault : has_fault made.steps ≡ false = made.decides.fault_is in
       let no_erase : has_erase made.steps ≡ false =
-      (neither (has_erase made.steps) (has_fault made.steps) made.decides.done_is).0 in
+      (or_parts (has_erase made.steps) (has_fault made.steps) made.decides.done_is).0 in
       record {
         round = made.steps;
         note = note;

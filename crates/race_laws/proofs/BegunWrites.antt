@@ -22,7 +22,6 @@ use Rattle.collector.specs.Writes as turns
 use Rattle.collector.specs.declared.replies.RoundReply.{RoundReply}
 use Rattle.collector.specs.declared.replies.RoundReply.TheVariants as round
 use Rattle.collector.specs.declared.replies.WriteReply.TheVariants as written
-use Rattle.serial_laws.proofs.Lists.{same_number}
 use Rattle.serial_laws.proofs.LookLists.{by_kind}
 use Rattle.serial_laws.proofs.MadeRounds.{none_in_both}
 use Rattle.calls_among_others.specs.CallsAmong.{ladders}
@@ -37,12 +36,8 @@ use Rattle.race_laws.specs.BegunCalls.{WritesStopBegun}
 use Rattle.race_laws.proofs.AmongStops.{all_left, refused_came}
 use Rattle.race_laws.proofs.BalancedLooks.{AreBalanced, balanced_join, write_part_balanced}
 use Rattle.race_laws.proofs.BegunRounds.{RoundBegun, round_begun}
-
-goes_on_faultless : (reply : RoundReply) → reply_of_round reply ≡ None → is_round_fault reply ≡ false
-goes_on_faultless (round.Erased sb) e = refl
-goes_on_faultless (round.Retired sb) e = refl
-goes_on_faultless (round.DieFault die) e = absurd (none-some (written.DieFault die) (sym e))
-goes_on_faultless round.Left e = refl
+use Rattle.shared_lemmas.proofs.Tests.{same_number}
+use Rattle.calls_among_others.proofs.AmongWrites.{goes_on_faultless}
 
 module _ (start : Start) (contents : List (Tag × List ℕ)) (caller : CallerView) (tag : Tag) (row : ℕ) where
   -- what a write that stopped made, or what of it is left

@@ -10,7 +10,8 @@ use Rattle.ssd_geo.specs.declared.entry.Entry.{Entry}
 use Rattle.ssd_geo.specs.declared.trace.Verb.{Verb}
 use Rattle.ssd_histories.specs.CallSteps.{CallStep}
 use Rattle.ssd_histories.specs.CallsInOrder.{AreStepsOf, OnOwnChannel}
-use Rattle.serial_laws.proofs.Lists.{not_true, same_Some}
+use Rattle.std.proofs.lemmas.Bool.{false_from_ne_true}
+use Rattle.std.proofs.lemmas.Option.{same_Some}
 
 -- a sum whose terms are 0 but at one place, where it is at most 1
 abbrev pub IsOneAt : {X : Type 0} → (X → ℕ) → ℕ → ℕ × X → Type 0
@@ -22,7 +23,7 @@ none_after f place k [] low all = refl
 none_after f place k (x ∷ xs) low all =
     let here = All-head (IsOneAt f place) (k, x) (enumerate_from (k + 1) xs) all in
     let differs : (place == k) ≡ false =
-    not_true (place == k) (λ same. let equal : place ≡ k = eqb-true place k same in absurd (omega (arith, low, equal))) in
+    false_from_ne_true (place == k) (λ same. let equal : place ≡ k = eqb-true place k same in absurd (omega (arith, low, equal))) in
     let zero : f x ≡ 0 = here.1 differs in
     let later = none_after f place (k + 1) xs (omega (arith, low))
     (All-tail (IsOneAt f place) (k, x) (enumerate_from (k + 1) xs) all) in

@@ -3,7 +3,7 @@
 use Rattle.std.proofs.Common.{ℕ, zero, suc, ◌≡◌, ◌+◌, ◌*◌, ◌<◌, ◌≤◌, ◌%◌, ◌==◌, not, Bool, true, false, cond, List, [], ◌∷◌, length, Option, Some, None, refl, sym, ap, subst, ◌∙◌, eqb-true, arith}
 use Rattle.std.specs.Prelude.{All, count_by, flat_map, is_some, sum_by}
 use Rattle.std.specs.List.{enumerate_from, list_all}
-use Rattle.std.proofs.lemmas.Bool.{and_parts, false≢true}
+use Rattle.std.proofs.lemmas.Bool.{and_parts, false≢true, false_from_ne_true}
 use Rattle.std.proofs.lemmas.List.Elements.{All-head, All-tail, All-weaker}
 use Rattle.std.proofs.lemmas.List.Sums.{sum_by-append, sum_by-cons}
 use Rattle.ssd_geo.specs.Ladder.{LadderState}
@@ -17,11 +17,12 @@ use Rattle.ssd_histories.specs.Replies.{decided_pages, drained_on, is_die_fault,
 use Rattle.ssd_histories.specs.Rounds.{has_fault}
 use Rattle.refresh.proofs.FaultReplies.{refresh_fault_is}
 use Rattle.serial_laws.proofs.DecidedReplies.{refresh_is_decided}
-use Rattle.serial_laws.proofs.DrainedPages.{one_drained}
-use Rattle.serial_laws.proofs.Lists.{not_empty, not_true, same_Some, same_first}
-use Rattle.serial_laws.proofs.LookLists.{by_kind, no_more_than_any, refresh_has_one_fault}
+use Rattle.serial_laws.proofs.DrainedPages.{one_drained, some_reply, IsSomeReply}
+use Rattle.serial_laws.proofs.Lists.{not_empty, same_first}
+use Rattle.serial_laws.proofs.LookLists.{by_kind, no_more_than_any, refresh_has_one_fault, at_most_one}
 use Rattle.serial_laws.proofs.MadeSteps.{faults_in}
 use Rattle.race_laws.specs.Drains.{AreDrainedOn, DrainsTakeFew}
+use Rattle.std.proofs.lemmas.Option.{same_Some}
 
 -- a sum over numbers, from one on, so many
 abbrev sum_from : (ℕ → ℕ) → ℕ → ℕ → ℕ
@@ -55,7 +56,7 @@ none_beyond : (place amount k n : ℕ) → place < k → sum_from (at_number pla
 none_beyond place amount k zero low = refl
 none_beyond place amount k (suc n) low =
     let differs : (place == k) ≡ false =
-    not_true (place == k) (λ same. let equal : place ≡ k = eqb-true place k same in absurd (omega (arith, low, equal))) in
+    false_from_ne_true (place == k) (λ same. let equal : place ≡ k = eqb-true place k same in absurd (omega (arith, low, equal))) in
     let here : at_number place amount k ≡ 0 = ap {B = ℕ} (λ (b : Bool). cond b amount 0) differs in
     let later = none_beyond place amount (k + 1) n (omega (arith, low)) in
     omega (arith, here, later)
@@ -123,10 +124,6 @@ many_decided (page ∷ pages) = ap suc (many_decided pages)
 abbrev pub tells_fault : ℕ × RefreshReply → Bool
 tells_fault page = is_die_fault page.1
 
-at_most_one : (b : Bool) → cond b 1 0 ≤ 1
-at_most_one true = omega arith
-at_most_one false = omega arith
-
 one_fault_told : (pages : List (ℕ × RefreshReply)) → is_fault_last pages ≡ true → count_by tells_fault pages ≤ 1
 one_fault_told [] last = omega arith
 one_fault_told (page ∷ []) last =
@@ -170,14 +167,6 @@ none_told channels channel (page ∷ pages) none =
     by_test false first later = later
 
 -- the steps of a drain on one channel
-record IsSomeReply (option : Option RefreshReply) : Type 0 where
-  reply : RefreshReply
-  is_there : option ≡ Some reply
-
-some_reply : (option : Option RefreshReply) → is_some option ≡ true → IsSomeReply option
-some_reply None e = absurd (false≢true e)
-some_reply (Some reply) e = record { reply = reply; is_there = refl }
-
 module _ (ladder : List Entry → ℕ → LadderState) (channels channel : ℕ) where
   looks_are_drained : (steps : List CallStep) → looks_in_steps steps ≡ length (drained_on ladder channels channel steps)
   looks_are_drained [] = refl

@@ -17,11 +17,11 @@ use Rattle.ssd_histories.specs.History.{is_same_tag, look_by, open_looks}
 use Rattle.ssd_histories.specs.Lawful.{IsLawfulBy, IsLawfulKind, IsLawfulLeave}
 use Rattle.ssd_histories.specs.OpenLooks.{began_at, look_at, without_look}
 use Rattle.ssd_histories.specs.SerialCalls.{entry_of}
-use Rattle.serial_laws.proofs.Lists.{not_true}
 use Rattle.serial_laws.proofs.LookLists.{by_kind}
-use Rattle.serial_laws.proofs.NumberedTags.{one_tag, same_parts, same_tag}
 use Rattle.calls_among_others.specs.StepsAmong.{AreStepsAmong, HasCome}
 use Rattle.calls_among_others.proofs.AmongSteps.{IsOfOther, lawful_among}
+use Rattle.std.proofs.lemmas.Bool.{false_from_ne_true}
+use Rattle.ssd_histories.proofs.SameTags.{same_parts, same_tag, one_tag}
 
 -- whether an entry leaves a look
 abbrev pub is_leave : Kind → Bool
@@ -102,7 +102,7 @@ module _ (tag : Tag) where
     other_none : (entry : Entry) → IsOfOther tag.actor entry → one_if (is_same_tag tag entry.tag) ≡ 0
     other_none entry other =
         ap one_if
-        (not_true (is_same_tag tag entry.tag) (λ same. other (sym (same_parts tag entry.tag same).0)))
+        (false_from_ne_true (is_same_tag tag entry.tag) (λ same. other (sym (same_parts tag entry.tag same).0)))
 
     none_if : (b : Bool) (n : ℕ) → n ≡ 0 → cond b n 0 ≡ 0
     none_if true n e = e

@@ -2,23 +2,17 @@
 use Rattle.std.proofs.Common.{ℕ, suc, zero, ◌≡◌, ◌+◌, ◌<◌, ◌==◌, ◌||◌, not, Bool, true, false, cond, List, [], ◌∷◌, ◌++◌, length, Some, refl, sym, ap, subst, ◌∙◌, append_assoc, inl, inr, arith}
 use Rattle.std.specs.Prelude.{All, count_by, filter, slice_get}
 use Rattle.std.specs.List.{list_all}
-use Rattle.std.proofs.lemmas.Bool.{and_parts, or_cases}
+use Rattle.std.proofs.lemmas.Bool.{and_parts, or_cases, or_left, or_right}
 use Rattle.std.proofs.lemmas.List.Elements.{All-cons, All-nil, filter-append}
 use Rattle.std.proofs.lemmas.List.Sums.{sum_by-cons}
 use Rattle.ssd_geo.specs.declared.entry.Entry.{Entry}
 use Rattle.ssd_geo.specs.declared.trace.TraceCall.{TraceCall}
 use Rattle.ssd_histories.specs.CallsInOrder.{AreNumberedAfter, is_of_call}
 use Rattle.ssd_histories.specs.History.{is_same_tag}
-use Rattle.serial_laws.proofs.Lists.{same_Some, same_number}
 use Rattle.calls_among_others.specs.ActorsCalls.{is_known_of}
-use Rattle.calls_among_others.proofs.AmongSteps.{or_first, or_second}
 use Rattle.race_laws.specs.Races.{calls_of, first_of}
-
--- an item of lists one after the other
-pub get_first : {X : Type 0} (xs ys : List X) (k : ℕ) → k < length xs → slice_get (xs ++ ys) k ≡ slice_get xs k
-get_first [] ys k low = absurd (omega arith)
-get_first (x ∷ xs) ys zero low = refl
-get_first (x ∷ xs) ys (suc k) low = get_first xs ys k (omega arith)
+use Rattle.std.proofs.lemmas.Option.{same_Some}
+use Rattle.shared_lemmas.proofs.Tests.{same_number}
 
 pub get_second : {X : Type 0} (xs ys : List X) (k : ℕ) → slice_get (xs ++ ys) (length xs + k) ≡ slice_get ys k
 get_second [] ys k = ap (slice_get ys) (none_and k)
@@ -82,13 +76,13 @@ first_known : (xs ys : List TraceCall) (entry : Entry) → is_of_call (xs ++ fir
 first_known [] [] entry known = known
 first_known [] (call ∷ calls) entry known =
     elim (or_cases (is_same_tag call.tag entry.tag) false known) [
-      | inl same ↦ or_first (is_same_tag call.tag entry.tag) (is_of_call calls entry) same
+      | inl same ↦ or_left (is_same_tag call.tag entry.tag) (is_of_call calls entry) same
       | inr none ↦ absurd (grind arith)
     ]
 first_known (call ∷ xs) ys entry known =
     elim (or_cases (is_same_tag call.tag entry.tag) (is_of_call (xs ++ first_of ys) entry) known) [
-      | inl same ↦ or_first (is_same_tag call.tag entry.tag) (is_of_call (xs ++ ys) entry) same
-      | inr later ↦ or_second (is_same_tag call.tag entry.tag) (is_of_call (xs ++ ys) entry) (first_known xs ys entry later)
+      | inl same ↦ or_left (is_same_tag call.tag entry.tag) (is_of_call (xs ++ ys) entry) same
+      | inr later ↦ or_right (is_same_tag call.tag entry.tag) (is_of_call (xs ++ ys) entry) (first_known xs ys entry later)
     ]
 
 own_known : (actor : ℕ) (calls : List TraceCall) (entry : Entry) → is_of_call (calls_of actor calls) entry ≡ true →
@@ -101,10 +95,10 @@ own_known actor (call ∷ calls) entry known = by_test (own_known actor calls en
         is_of_call (call ∷ calls) entry ≡ true
     by_test more true is =
         elim (or_cases (is_same_tag call.tag entry.tag) (is_of_call (calls_of actor calls) entry) is) [
-          | inl same ↦ or_first (is_same_tag call.tag entry.tag) (is_of_call calls entry) same
-          | inr later ↦ or_second (is_same_tag call.tag entry.tag) (is_of_call calls entry) (more later)
+          | inl same ↦ or_left (is_same_tag call.tag entry.tag) (is_of_call calls entry) same
+          | inr later ↦ or_right (is_same_tag call.tag entry.tag) (is_of_call calls entry) (more later)
         ]
-    by_test more false is = or_second (is_same_tag call.tag entry.tag) (is_of_call calls entry) (more is)
+    by_test more false is = or_right (is_same_tag call.tag entry.tag) (is_of_call calls entry) (more is)
 
 -- what a weaker test of each entry says of a past
 pub all_weaker : (p q : Entry → Bool) → ((entry : Entry) → p entry ≡ true → q entry ≡ true) → (past : List Entry) →

@@ -3,20 +3,21 @@ use Rattle.std.proofs.Common.{ℕ, ◌≡◌, ◌<◌, ◌≤◌, ◌%◌, ◌==
 use Rattle.std.specs.Prelude.{IsSomeAnd, count_by, option_map, slice_get, slice_index_or}
 use Rattle.std.specs.Option.{ForSome}
 use Rattle.std.proofs.lemmas.List.{length-append, length-map}
-use Rattle.std.proofs.lemmas.Option.{get_or_from_slice_get, slice_get-map, slice_get_within}
+use Rattle.std.proofs.lemmas.Option.{get_or_from_slice_get, slice_get-map, slice_get_within, same_Some}
 use Rattle.ssd_geo.specs.declared.reply.Reply.{Reply}
 use Rattle.ssd_geo.specs.declared.tag.Tag.{Tag}
 use Rattle.ssd_geo.specs.declared.trace.TraceCall.{TraceCall}
 use Rattle.ssd_geo.specs.declared.trace.Verb.{Verb}
 use Rattle.ssd_histories.specs.CallsInOrder.{ChannelRun, IsDrainReply, IsReplyBy, IsReplyOf, OfRun, answered_by, ladder_in, reply_to, steps_on}
 use Rattle.ssd_histories.specs.Replies.{decided_pages, drained_on, pages_on}
-use Rattle.serial_laws.proofs.Lists.{IsItemAt, all_both, all_numbered, item_at, same_Some, same_number}
+use Rattle.serial_laws.proofs.Lists.{IsItemAt, all_both, all_numbered, item_at}
 use Rattle.calls_among_others.specs.ActorsCalls.{IsAsked}
 use Rattle.calls_among_others.specs.CallsAmong.{AreDrained, DecideReply, OnOwn}
 use Rattle.race_laws.specs.RaceReplies.{HasChannel, HasFaultLast, RacesHaveReplies}
 use Rattle.race_laws.specs.Races.{IsActorAsked, calls_of}
 use Rattle.race_laws.proofs.PlacedCalls.{IsPlacedIn, are_placed, filter_length}
 use Rattle.race_laws.proofs.RacesInOrder.{IsAnsweredAt, asked_at, found_answered, many_answered}
+use Rattle.shared_lemmas.proofs.Tests.{same_number}
 
 -- a fact of a call's own channel
 on_own : (b : Bool) (fact : Type 0) → b ≡ true → OnOwn b fact → fact

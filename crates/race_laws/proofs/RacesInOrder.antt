@@ -6,21 +6,22 @@ use Rattle.std.proofs.lemmas.Bool.{cases_eq, false≢true, ltb-false, ltb-true}
 use Rattle.std.proofs.lemmas.List.{length-map}
 use Rattle.std.proofs.lemmas.List.Elements.{All-head}
 use Rattle.std.proofs.lemmas.List.Sums.{list_all-from_AllPass}
-use Rattle.std.proofs.lemmas.Option.{get_or_from_slice_get, slice_get-map}
+use Rattle.std.proofs.lemmas.Option.{get_or_from_slice_get, slice_get-map, same_Some}
 use Rattle.ssd_geo.specs.declared.reply.Reply.{Reply}
 use Rattle.ssd_geo.specs.declared.tag.Tag.{Tag}
 use Rattle.ssd_geo.specs.declared.trace.TraceCall.{TraceCall}
 use Rattle.ssd_geo.specs.declared.trace.Verb.{Verb}
 use Rattle.ssd_histories.specs.CallSteps.{CallStep}
 use Rattle.ssd_histories.specs.CallsInOrder.{AreCallSteps, ChannelRun, IsAsAnswered, IsBegun, IsBegunOn, IsNotMade, IsWhole, TookAtMost, answered_by, count_of_faults, hints_taken, is_left, is_of_call, ladder_in, never_fall, steps_on}
-use Rattle.serial_laws.proofs.Lists.{IsItemAt, all_at, all_both, all_numbered, item_at, numbered_at, same_Some}
+use Rattle.serial_laws.proofs.Lists.{IsItemAt, all_both, all_numbered, item_at}
 use Rattle.serial_laws.proofs.MadeSteps.{faults_in}
 use Rattle.serial_laws.proofs.UnbegunCalls.{as_answered, as_first}
 use Rattle.calls_among_others.specs.ActorsCalls.{IsAsked}
 use Rattle.calls_among_others.proofs.ActorsSteps.{each_known, none_falls}
 use Rattle.race_laws.specs.Races.{AreAskedSoFar, IsActorAsked, IsBegunThere, IsFewWhereDrain, RacesAreInOrder, first_of}
 use Rattle.race_laws.proofs.CountedFaults.{IsOneAt, channel_named, no_steps_elsewhere, sum_of_one}
-use Rattle.race_laws.proofs.PlacedCalls.{IsPlacedIn, are_placed, get_first, get_of_first, get_second, known_in_trace}
+use Rattle.race_laws.proofs.PlacedCalls.{IsPlacedIn, are_placed, get_of_first, get_second, known_in_trace}
+use Rattle.shared_lemmas.proofs.Lists.{all_at, numbered_at, in_front_of}
 
 -- of a drain few is asked, and of other calls nothing
 few_hints : (runs : List ChannelRun) (tag : Tag) (verb : Verb) → IsFewWhereDrain runs tag verb →
@@ -173,7 +174,7 @@ module _ (contents : List (Tag × List ℕ)) (actors : ℕ) (calls : List TraceC
         omega (arith, low, many_firsts) in
         let many = many_answered call.tag.actor in
         answered_at (asked call.tag.actor).are_calls.answered call.tag.call call (omega (arith, low, many))
-        (sym (get_first (map (λ made. made.0) (asked call.tag.actor).are_calls.answered)
+        (sym (in_front_of (map (λ made. made.0) (asked call.tag.actor).are_calls.answered)
         (asked call.tag.actor).are_calls.rest call.tag.call low_there) ∙ there)
 
     pub asked_at : (found : IsAnsweredAt (asked call.tag.actor).are_calls.answered call.tag.call call) (i : ℕ)

@@ -4,13 +4,13 @@ use Rattle.std.specs.Prelude.{All, slice_get}
 use Rattle.std.proofs.lemmas.List.{length-map}
 use Rattle.std.proofs.lemmas.List.Elements.{All-cons, All-nil}
 use Rattle.std.proofs.lemmas.List.Sums.{sum_by-append, sum_by-cons}
-use Rattle.std.proofs.lemmas.Option.{slice_get_within}
+use Rattle.std.proofs.lemmas.Option.{slice_get_within, same_Some}
 use Rattle.ssd_geo.specs.declared.reply.Reply.{Reply}
 use Rattle.ssd_geo.specs.declared.tag.Tag.{Tag}
 use Rattle.ssd_geo.specs.declared.trace.TraceCall.{TraceCall}
 use Rattle.ssd_histories.specs.CallsInOrder.{AreNumberedAfter, ChannelRun}
 use Rattle.ssd_histories.specs.Lawful.{IsLawful}
-use Rattle.serial_laws.proofs.Lists.{all_at, all_numbered, numbered_at, same_Some}
+use Rattle.serial_laws.proofs.Lists.{all_numbered}
 use Rattle.serial_laws.proofs.NumberedTags.{counts_in}
 use Rattle.calls_among_others.proofs.ActorsSteps.{calls_are_asked}
 use Rattle.race_laws.specs.Races.{AreAskedSoFar, IsActorAsked, calls_of, first_of}
@@ -19,6 +19,7 @@ use Rattle.race_laws.proofs.BegunActors.{begun_actors}
 use Rattle.race_laws.proofs.PlacedCalls.{get_second}
 use Rattle.race_laws.proofs.UnbegunActors.{actors_so_far}
 use Rattle.race_laws.proofs.WholeRaces.{whole_races_in_order}
+use Rattle.shared_lemmas.proofs.Lists.{all_at, numbered_at}
 
 -- a call that stands at a place among its actor's has that place as its number
 abbrev IsNumbered : ℕ → ℕ → TraceCall → Type 0

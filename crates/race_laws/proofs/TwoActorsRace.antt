@@ -12,7 +12,6 @@ use Rattle.ssd_histories.specs.CallSteps.{CallStep}
 use Rattle.ssd_histories.specs.CallsInOrder.{ChannelRun, IsSomeRefresh, answered_by, reply_to}
 use Rattle.ssd_histories.specs.HistoryExamples.{AreWithinLimits, blank_start, step, tag_of}
 use Rattle.ssd_histories.specs.Lawful.{IsLawful}
-use Rattle.serial_laws.proofs.Lists.{same_Some}
 use Rattle.serial_laws.proofs.MadeSteps.{faults_in}
 use Rattle.calls_among_others.specs.CallsAmong.{IsCallAmong, ladders}
 use Rattle.calls_among_others.specs.StepsAmong.{HasCome}
@@ -22,6 +21,7 @@ use Rattle.race_laws.specs.RaceReplies.{HasChannel, IsDrainAnswered}
 use Rattle.race_laws.specs.Races.{IsFewWhereDrain, calls_of}
 use Rattle.race_laws.specs.RacesMade.{AreMadeSoFar, IsActorMade}
 use Rattle.race_laws.specs.TwoActorsRace.{TwoActorsRaceMeetsPremises, raced_calls, raced_past, raced_replies, raced_runs, trimmed_first}
+use Rattle.std.proofs.lemmas.Option.{same_Some}
 
 -- one entry of another actor came
 one_came : (actor : ℕ) (entry : Entry) (before : List Entry) → entry.tag.actor ≢ actor → HasCome actor before (entry ∷ before)

@@ -3,7 +3,7 @@
 use Rattle.std.proofs.Common.{ℕ, zero, suc, ◌≡◌, ◌<◌, ◌≤◌, not, Bool, true, false, cond, List, [], ◌∷◌, ◌++◌, length, map, Option, Some, None, refl, ap, subst, ◌∙◌, arith}
 use Rattle.std.specs.Prelude.{All, slice_get}
 use Rattle.std.specs.List.{list_all}
-use Rattle.std.proofs.lemmas.Bool.{and_parts}
+use Rattle.std.proofs.lemmas.Bool.{and_parts, or_left}
 use Rattle.std.proofs.lemmas.List.Elements.{All-cons, All-head, All-nil}
 use Rattle.std.proofs.lemmas.List.Folds.{list_all-append, list_any-append}
 use Rattle.ssd_geo.specs.declared.entry.Entry.{Entry}
@@ -15,13 +15,12 @@ use Rattle.ssd_histories.specs.CallSteps.{CallStep, steps_of}
 use Rattle.ssd_histories.specs.CallsInOrder.{ChannelRun, IsBegun, IsBegunOn, is_left, is_of_call, steps_on}
 use Rattle.ssd_histories.specs.History.{is_same_tag, look_made, looks_after, open_looks, with_look}
 use Rattle.ssd_histories.specs.OpenLooks.{began_at, without_look}
-use Rattle.serial_laws.proofs.Lists.{numbered_at}
 use Rattle.serial_laws.proofs.MadeSteps.{faults_in}
-use Rattle.serial_laws.proofs.UnbegunCalls.{begun_with_none}
+use Rattle.serial_laws.proofs.UnbegunCalls.{begun_with_none, add_other, after_other}
 use Rattle.calls_among_others.specs.ActorsCalls.{is_known_of}
-use Rattle.calls_among_others.proofs.AmongSteps.{or_first}
 use Rattle.race_laws.specs.Races.{AskedActorsAreSoFar, IsBegunThere, first_of}
 use Rattle.race_laws.proofs.PlacedCalls.{all_weaker, known_weaker}
+use Rattle.shared_lemmas.proofs.Lists.{numbered_at}
 
 -- so many of an item
 abbrev copies : {X : Type 0} → ℕ → X → List X
@@ -48,30 +47,6 @@ all_tested test (suc n) x has = rw has (all_tested test n x has)
 -- an open look is of a call that has an entry
 abbrev is_of_other : Tag → Tag × Look → Bool
 is_of_other tag pin = not (is_same_tag tag pin.0)
-
-stay_others : (tag : Tag) (at : ℕ) (pins : List (Tag × Look)) → list_all (is_of_other tag) pins ≡ true →
-    list_all (is_of_other tag) (without_look pins at) ≡ true
-stay_others tag at [] others = refl
-stay_others tag at (pin ∷ pins) others =
-    let parts = and_parts (is_of_other tag pin) (list_all (is_of_other tag) pins) others in
-    by_test (began_at at pin) parts.0 parts.1 (stay_others tag at pins parts.1)
-  where
-    by_test : (b : Bool) → is_of_other tag pin ≡ true → list_all (is_of_other tag) pins ≡ true →
-        list_all (is_of_other tag) (without_look pins at) ≡ true →
-        list_all (is_of_other tag) (cond b pins (pin ∷ without_look pins at)) ≡ true
-    by_test true first rest without = rest
-    by_test false first rest without = rw first without
-
-add_other : (tag named : Tag) (look : Option Look) (pins : List (Tag × Look)) → is_same_tag tag named ≡ false →
-    list_all (is_of_other tag) pins ≡ true → list_all (is_of_other tag) (with_look named look pins) ≡ true
-add_other tag named None pins differs others = others
-add_other tag named (Some look) pins differs others =
-    list_all-append (is_of_other tag) pins ((named, look) ∷ []) ∙ rw (others, differs) refl
-
-after_other : (tag named : Tag) (at : ℕ) (kind : Kind) (pins : List (Tag × Look)) → is_same_tag tag named ≡ false →
-    list_all (is_of_other tag) pins ≡ true → list_all (is_of_other tag) (looks_after at named kind pins) ≡ true
-after_other tag named at (Kind.Leave left) pins differs others = stay_others tag left pins others
-after_other tag named at kind pins differs others = add_other tag named (look_made at kind) pins differs others
 
 no_last : {X : Type 0} (xs : List X) (x : X) → xs ++ x ∷ [] ≡ [] → ⊥
 no_last [] x none = grind arith
@@ -133,7 +108,7 @@ actors_so_far contents channels channel actor run answered rest low asked late =
       known_weaker actor (map (λ made. made.0) answered) (map (λ made. made.0) answered ++ first_of rest) entry
       (λ is.
       list_any-append (λ (call : TraceCall). is_same_tag call.tag entry.tag) (map (λ made. made.0) answered) (first_of rest)
-      ∙ or_first (is_of_call (map (λ made. made.0) answered) entry) (is_of_call (first_of rest) entry) is))
+      ∙ or_left (is_of_call (map (λ made. made.0) answered) entry) (is_of_call (first_of rest) entry) is))
       run.past asked.known;
   in_order = asked.in_order;
   none_later = λ tag own later. asked.none_later tag own (omega (arith, later));

@@ -18,11 +18,8 @@ use Rattle.ssd_histories.specs.LastWrites.{GivesLastWrite, ReadsLastWrite}
 use Rattle.ssd_histories.specs.Replies.{read_reply}
 use Rattle.recovery_laws.specs.ReadReplies.{CallsGiveLastWrites, IsWrittenRun}
 use Rattle.recovery_laws.proofs.ReadReplies.{reads_give_last_writes}
-use Rattle.recovery_laws.proofs.WritingCalls.{of_each_number, traced_runs_are_written}
-
--- what each of a list has, one of them has
-of_each : {X : Type 0} (P : X → Type 0) (xs : List X) (k : ℕ) (x : X) → All P xs → slice_get xs k ≡ Some x → P x
-of_each P xs k x all is = subst P (get_or_from_slice_get xs k x x is) (all k x (slice_get_within xs k x is))
+use Rattle.recovery_laws.proofs.WritingCalls.{traced_runs_are_written}
+use Rattle.shared_lemmas.proofs.Lists.{all_at, numbered_at}
 
 module _ (contents : List (Tag × List ℕ)) (runs : List ChannelRun) (written : All (IsWrittenRun contents) runs) (tag : Tag) (reply : Reply) where
   -- the channel of a read
@@ -31,9 +28,9 @@ module _ (contents : List (Tag × List ℕ)) (runs : List ChannelRun) (written :
       read_reply run.start.base.shape.bytes (ladder_in contents run) (steps_on tag run) ≡ Some reply →
       All (λ step. ForSome (look_made (position_of step) step.entry.kind) (GivesLastWrite contents run reply)) (steps_on tag run)
   on_channel page run is are_steps replies =
-      reads_give_last_writes contents run tag (page / length runs) reply (of_each (IsWrittenRun contents) runs (page % length runs) run written is)
+      reads_give_last_writes contents run tag (page / length runs) reply (all_at (IsWrittenRun contents) runs (page % length runs) run written is)
       (own (page % length runs == page % length runs) (same (page % length runs))
-      (of_each_number (λ item. AreStepsOf (ladder_in contents item.1) item.1.start.base (length runs) item.0 (Verb.Read page) (steps_on tag item.1)) runs
+      (numbered_at (λ item. AreStepsOf (ladder_in contents item.1) item.1.start.base (length runs) item.0 (Verb.Read page) (steps_on tag item.1)) runs
       (page % length runs) run are_steps is)) replies
     where
       same : (n : ℕ) → (n == n) ≡ true
@@ -59,7 +56,7 @@ module _ (contents : List (Tag × List ℕ)) (runs : List ChannelRun) (written :
   verb_gives verb are_steps replies = tt
 
 -- a call that has a reply was answered, and so it was made whole
-whole_call : (contents : List (Tag × List ℕ)) (runs : List ChannelRun) (call : TraceCall) (replies : List (List Reply)) (reply : Reply) →
+pub whole_call : (contents : List (Tag × List ℕ)) (runs : List ChannelRun) (call : TraceCall) (replies : List (List Reply)) (reply : Reply) →
     IsAsAnswered contents runs (nat_lt call.tag.call (answered_by replies call.tag.actor)) (call.tag.call == answered_by replies call.tag.actor) call →
     reply_to replies call.tag ≡ Some reply → IsWhole contents runs call
 whole_call contents runs call replies reply made is =

@@ -29,7 +29,7 @@ same_reply : (given reply : Reply) → Some given ≡ Some reply → given ≡ r
 same_reply given reply e = ap {B = Reply} (λ (option : Option Reply). unwrap_or option given) e
 
 -- the reply that one step decides
-one_decides : (option : Option Reply) (reply : Reply) → (elim option as (λ x. Option Reply) [ Some given ↦ Some given | None ↦ None ]) ≡ Some reply → option ≡ Some reply
+pub one_decides : (option : Option Reply) (reply : Reply) → (elim option as (λ x. Option Reply) [ Some given ↦ Some given | None ↦ None ]) ≡ Some reply → option ≡ Some reply
 one_decides None reply e = e
 one_decides (Some given) reply e = e
 

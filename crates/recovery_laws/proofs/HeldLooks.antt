@@ -18,7 +18,7 @@ use Rattle.ssd_histories.proofs.RewrittenRows.{rewritten_rows_differ}
 use Rattle.recovery_laws.specs.HeldLooks.{ClosedStripesStay, KeepsStripes, StaleCopiesChangeNothing}
 use Rattle.recovery_laws.proofs.Pasts.{StepLook, step_look}
 
-still_within : (slots before after : ℕ) → before ≤ after → nat_le slots before ≡ true → nat_le slots after ≡ true
+pub still_within : (slots before after : ℕ) → before ≤ after → nat_le slots before ≡ true → nat_le slots after ≡ true
 still_within slots before after more within = grind (arith, nat_tests)
 
 -- no fewer slots are used, so a stripe that was closed is

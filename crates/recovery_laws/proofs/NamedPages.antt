@@ -23,6 +23,7 @@ use Rattle.ssd_histories.specs.Room.{next_slot}
 use Rattle.ssd_histories.proofs.FreshPages.{IsKept, failed_elsewhere, program_elsewhere}
 use Rattle.ssd_histories.proofs.FreshSlots.{not_parity}
 use Rattle.ssd_histories.proofs.UsedSlots.{first_holds, next_is_used, none_live, of_some, second_holds, slot_in_range}
+use Rattle.shared_lemmas.proofs.Tests.{middle_holds}
 
 -- the word of a page under a change that keeps it
 pub word_kept : (base : ChannelBase) (change : PageChange) (a : Option StoredPage) (b : Slot → Option StoredPage) (before : Option StoredPage) → IsKept change →
@@ -75,11 +76,6 @@ when_neither false d e = tt
 when_aged : (b : Bool) (amount : ℕ) → IsKept (change_when b (ages amount))
 when_aged true amount = tt
 when_aged false amount = tt
-
-middle_holds : (a b d : Bool) → (a && b && d) ≡ true → b ≡ true
-middle_holds true true d e = refl
-middle_holds true false d e = absurd (grind arith)
-middle_holds false b d e = absurd (grind arith)
 
 module _ (state : ℕ → LadderState) (base : ChannelBase) (past : List Entry) (row : ℕ) (held : Slot) (serial : ℕ) (lt : row < base.shape.rows)
     (is : row_of base past row ≡ Row.Page held serial) (used : NamesUsed base past (Row.Page held serial)) where

@@ -12,6 +12,8 @@ use Rattle.ssd_histories.specs.History.{is_same_tag, look_by, look_made, look_of
 use Rattle.ssd_histories.specs.OpenLooks.{began_at, look_at}
 use Rattle.ssd_histories.proofs.OpenLookLaws.{all_left}
 use Rattle.ssd_histories.proofs.UsedSlots.{made}
+use Rattle.ssd_histories.proofs.MadeLooks.{made_at}
+use Rattle.shared_lemmas.proofs.Tests.{is_other_above, same_number}
 
 -- what is chosen of two, by a test that holds or doesn't
 if_holds : {A : Type 0} (b : Bool) (here older : A) → b ≡ true → ◌≡◌ {A = A} (elim b [ true ↦ here | false ↦ older ]) here
@@ -22,27 +24,14 @@ if_fails : {A : Type 0} (b : Bool) (here older : A) → b ≡ false → ◌≡�
 if_fails true here older e = absurd (grind arith)
 if_fails false here older e = refl
 
-same_number : (n : ℕ) → (n == n) ≡ true
-same_number n = grind (arith, nat_tests)
-
-other_number : (n at : ℕ) → at < n → (n == at) ≡ false
-other_number n at lt = grind (arith, nat_tests)
-
 -- the look at an older position, and that of the newest entry
 pub older_look : (entry : Entry) (past : List Entry) (at : ℕ) → at < length past → look_of (entry ∷ past) at ≡ look_of past at
 older_look entry past at lt =
-    if_fails (length past == at) (look_made at entry.kind) (look_of past at) (other_number (length past) at lt)
+    if_fails (length past == at) (look_made at entry.kind) (look_of past at) (is_other_above (length past) at lt)
 
 pub newest_look : (entry : Entry) (past : List Entry) → look_of (entry ∷ past) (length past) ≡ look_made (length past) entry.kind
 newest_look entry past =
     if_holds (length past == length past) (look_made (length past) entry.kind) (look_of past (length past)) (same_number (length past))
-
--- a look stands at its position
-made_at : (at : ℕ) (kind : Kind) (look : Look) → look_made at kind ≡ Some look → look.at ≡ at
-made_at at (Kind.Look row (Row.Page slot serial) closed) look is =
-    let made_look : Look = record { at = at; row = row; slot = slot; serial = serial; closed = closed } in
-    sym (ap (λ (option : Option Look). (unwrap_or option made_look).at) is)
-made_at at kind look is = absurd (cc)
 
 -- which is one of the past's
 pub record IsMadeAt (past : List Entry) (at : ℕ) (look : Look) : Type 0 where

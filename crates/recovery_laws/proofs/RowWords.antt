@@ -29,26 +29,8 @@ use Rattle.ssd_histories.proofs.UsedSlots.{made}
 use Rattle.recovery_laws.proofs.NamedPages.{named_kept, word_kept}
 use Rattle.recovery_laws.proofs.Pasts.{StepLook, step_look}
 use Rattle.recovery_laws.proofs.SettledLadders.{FindWords, IsLawfulHere, find_before}
-
--- a place is itself
-place_is : (place : Place) → is_place place place ≡ true
-place_is place = all (place.die == place.die) (place.sb == place.sb) (place.page == place.page) (same place.die) (same place.sb) (same place.page)
-  where
-    same : (n : ℕ) → (n == n) ≡ true
-    same n = grind (arith, nat_tests)
-
-    all : (a b c : Bool) → a ≡ true → b ≡ true → c ≡ true → (a && b && c) ≡ true
-    all a b c e f g = rw (e, f, g) refl
-
--- the program of a slot programs the slot's place
-programs_own : (dies : ℕ) (slot : Slot) → change_by_program dies slot (place_of_slot dies slot) ≡ programs
-programs_own dies slot = by_test (is_place (place_of_slot dies slot) (place_of_slot dies slot)) _ (place_is (place_of_slot dies slot))
-  where
-    by_test : (b : Bool) (other : PageChange) → b ≡ true → ◌≡◌ {A = PageChange} (elim b [ true ↦ programs | false ↦ other ]) programs
-    by_test b other e = rw e refl
-
-same_number : (a b : ℕ) → (a == b) ≡ true → a ≡ b
-same_number a b e = grind (arith, nat_tests)
+use Rattle.std.proofs.lemmas.Bool.{eqb-true}
+use Rattle.ssd_histories.proofs.SlotPrograms.{programs_own}
 
 abbrev slot_within : Slot → Row → Slot
 slot_within slot (Row.Page held serial) = held
@@ -144,7 +126,7 @@ module _ (coding : Coding) (start : Start) (contents : List (Tag × List ℕ)) (
             All Fact (elim b [ true ↦ [] | false ↦ copies_of past row ]) →
             (elim b [ true ↦ bytes (data_of contents tag) | false ↦ plain_of start.base contents past row ]) ≡ bytes data_bytes →
             word_at (made tag (Kind.Write named slot) ∷ past) held ≡ Some (coding.encoded serial row data_bytes)
-        by_test true e here none gives = written (same_number named row e) here gives
+        by_test true e here none gives = written (eqb-true named row e) here gives
         by_test false e here all gives = word_kept_by (Kind.Write named slot) range c held serial data_bytes here all gives
 
     -- a trim leaves no page, nor does a row that is lost name one
@@ -219,7 +201,7 @@ module _ (coding : Coding) (start : Start) (contents : List (Tag × List ℕ)) (
             All Fact (elim b [ true ↦ at ∷ copies_of past row | false ↦ copies_of past row ]) →
             word_at (made tag (Kind.Move at slot) ∷ past) held ≡ Some (coding.encoded serial row data_bytes)
         by_test true e here all =
-            copied (same_number look.row row e) here (All-head Fact at (copies_of past row) all) (All-tail Fact at (copies_of past row) all)
+            copied (eqb-true look.row row e) here (All-head Fact at (copies_of past row) all) (All-tail Fact at (copies_of past row) all)
         by_test false e here all = word_kept_by (Kind.Move at slot) range c held serial data_bytes here all plain
 
     word_step : FindWords coding start contents Fact past → All (KeepsPages coding start contents past) (open_looks past) → (kind : Kind) →

@@ -20,18 +20,8 @@ use Rattle.ssd_histories.specs.Start.{data_of}
 use Rattle.recovery_laws.specs.ReadReplies.{HasContents, IsTracedRun, IsWrittenRun, TracedRunsAreWritten}
 use Rattle.recovery_laws.specs.RecoveredReads.{WritesData}
 use Rattle.recovery_laws.proofs.OtherVerbs.{MayWrite, verb_may_write}
-
--- what each of a list has with its number, one of them has
-pub of_each_number : {X : Type 0} (P : ℕ × X → Type 0) (xs : List X) (k : ℕ) (x : X) → All P (enumerate_from 0 xs) → slice_get xs k ≡ Some x → P (k, x)
-of_each_number P xs k x all is =
-    subst P (get_or-enumerate_from 0 xs k (k, x) within ∙ (λ i. (zero_more k i, get_or_from_slice_get xs k x x is i)))
-    (all k (k, x) (omega (arith, within, length-enumerate_from 0 xs)))
-  where
-    within : k < length xs
-    within = slice_get_within xs k x is
-
-    zero_more : (n : ℕ) → 0 + n ≡ n
-    zero_more n = omega arith
+use Rattle.shared_lemmas.proofs.Lists.{numbered_at}
+use Rattle.ssd_histories.proofs.SameTags.{one_tag}
 
 -- of a fact of each of two lists, that of each of the first, and of the last item
 all_front : {X : Type 0} (P : X → Type 0) (xs ys : List X) → All P (xs ++ ys) → All P xs
@@ -61,12 +51,6 @@ found_call Has tag (call ∷ calls) all known =
     by_test true e here older = record { call = call; has = All-head Has call calls all; is_same = e }
     by_test false e here older = older here
 
-same_tag : (a b : Tag) → is_same_tag a b ≡ true → a ≡ b
-same_tag a b e =
-    let actors : a.actor ≡ b.actor = grind (arith, nat_tests) in
-    let calls : a.call ≡ b.call = grind (arith, nat_tests) in
-    λ i. record { actor = actors i; call = calls i }
-
 module _ (count : ℕ) (contents : List (Tag × List ℕ)) where
   -- an entry of a call has the call's data where it writes
   entry_data : (past : List Entry) (tag : Tag) (kind : Kind) (call_tag : Tag) (verb : Verb) → call_tag ≡ tag → HasContents count contents call_tag verb →
@@ -94,7 +78,7 @@ module _ (count : ℕ) (contents : List (Tag × List ℕ)) where
 
   newest_data : (entry : Entry) (past : List Entry) → FoundCall (HasSteps (entry ∷ past)) entry.tag → WritesData count contents entry.tag entry.kind
   newest_data entry past found =
-      entry_data past entry.tag entry.kind found.call.tag found.call.verb (same_tag found.call.tag entry.tag found.is_same) found.has.contents_are
+      entry_data past entry.tag entry.kind found.call.tag found.call.verb (one_tag found.call.tag entry.tag found.is_same) found.has.contents_are
       (by_tag (is_same_tag found.call.tag entry.tag) found.is_same found.has.may_write)
     where
       by_tag : (b : Bool) → b ≡ true →
@@ -118,9 +102,9 @@ call_steps : (contents : List (Tag × List ℕ)) (runs : List ChannelRun) (chann
     slice_get runs channel ≡ Some run → IsAsAnswered contents runs answered first call → All (MayWrite call.verb) (steps_on call.tag run)
 call_steps contents runs channel run call true first is whole =
     verb_may_write (ladder_in contents run) run.start.base (length runs) channel call.verb (steps_on call.tag run)
-    (of_each_number (λ item. AreCallSteps contents (length runs) call item (steps_on call.tag item.1)) runs channel run whole.on_channels is)
+    (numbered_at (λ item. AreCallSteps contents (length runs) call item (steps_on call.tag item.1)) runs channel run whole.on_channels is)
 call_steps contents runs channel run call false true is begun =
-    let here : IsBegunOn contents (length runs) call (channel, run) = of_each_number (IsBegunOn contents (length runs) call) runs channel run begun.on_channels is in
+    let here : IsBegunOn contents (length runs) call (channel, run) = numbered_at (IsBegunOn contents (length runs) call) runs channel run begun.on_channels is in
     all_front (MayWrite call.verb) (steps_on call.tag run) here.rest
     (verb_may_write (ladder_in contents run) run.start.base (length runs) channel call.verb (steps_on call.tag run ++ here.rest) here.begins)
 call_steps contents runs channel run call false false is none =

@@ -4,7 +4,7 @@ use Rattle.std.proofs.Common.{◌≡◌, ℕ, false, List, [], ◌∷◌, None, 
 use Rattle.chan_calls.specs.Caller.{CallerView}
 use Rattle.chan_calls.specs.Copied.{CopiesAloneAreRefreshes, IsRefreshBy, refresh_of_copy}
 use Rattle.chan_calls.specs.Stepping.{MakesLook}
-use Rattle.chan_calls.proofs.SensedSteps.{is_seen, same, step_with}
+use Rattle.chan_calls.proofs.SensedSteps.{is_seen, step_with}
 use Rattle.chan_tables.specs.declared.answers.LookAnswer.{LookAnswer}
 use Rattle.chan_tables.specs.declared.answers.LookAnswer.TheVariants.{Empty, Found, Lost}
 use Rattle.ssd_geo.specs.Coding.{coding_of}
@@ -22,6 +22,7 @@ use Rattle.ssd_histories.specs.Start.{Start}
 use Rattle.refresh.specs.Alone.{IsRefreshAlone, RefreshesAloneAreRefreshes}
 use Rattle.refresh.specs.Refreshes.{FollowsLook}
 use Rattle.refresh.proofs.FaultReplies.{refresh_fault_is}
+use Rattle.shared_lemmas.proofs.Tests.{same_number}
 
 module _ (start : Start) (contents : List (Tag × List ℕ)) (tag : Tag) (row : ℕ) (copies_are : CopiesAloneAreRefreshes) where
   abbrev ladder : List Entry → ℕ → LadderState
@@ -33,7 +34,7 @@ module _ (start : Start) (contents : List (Tag × List ℕ)) (tag : Tag) (row : 
   empty_alone before = record {
     steps = step_with tag (Kind.Look row Row.Empty false) before ∷ [];
     are_steps = (refl, refl, refl);
-    is_refresh = inl (same row);
+    is_refresh = inl (same_number row);
     reply_is = refl;
     fault_is = refl;
   }
@@ -43,7 +44,7 @@ module _ (start : Start) (contents : List (Tag × List ℕ)) (tag : Tag) (row : 
   lost_alone before = record {
     steps = step_with tag (Kind.Look row Row.Lost false) before ∷ [];
     are_steps = (refl, refl, refl);
-    is_refresh = inl (same row);
+    is_refresh = inl (same_number row);
     reply_is = refl;
     fault_is = refl;
   }

@@ -3,7 +3,6 @@
 use Rattle.std.proofs.Common.{◌≡◌, ℕ, ◌||◌, Bool, true, false, List, [], ◌∷◌, ◌++◌, Option, Some, None, refl, sym, ap, subst, ◌∙◌, inl, inr}
 use Rattle.std.specs.List.{list_all}
 use Rattle.std.proofs.lemmas.Bool.{and_parts, false≢true}
-use Rattle.chan_calls.proofs.SensedSteps.{or_false}
 use Rattle.ssd_geo.specs.Ladder.{LadderState, asks, recovered, uncorrectable}
 use Rattle.ssd_geo.specs.declared.entry.Entry.{Entry}
 use Rattle.ssd_geo.specs.declared.kind.Kind.{Kind}
@@ -13,6 +12,7 @@ use Rattle.ssd_histories.specs.CallSteps.{CallStep, is_fault, is_leave_of, is_lo
 use Rattle.ssd_histories.specs.Copies.{IsRefresh, is_refreshed}
 use Rattle.ssd_histories.specs.Replies.{is_die_fault, refresh_decided, refresh_of_ladder, refresh_reply}
 use Rattle.ssd_histories.specs.Rounds.{has_fault}
+use Rattle.shared_lemmas.proofs.Tests.{or_false}
 
 -- whether a reply, if there is one, says so
 abbrev tells_fault : Option RefreshReply → Bool

@@ -11,6 +11,7 @@ use Rattle.ssd_geo.specs.PageWord.{code_in, codes_in, joined}
 use Rattle.page_head.proofs.PutParts.{part_fits}
 use Rattle.retry_ladder.specs.Kept.{found_or_kept, kept_at, kept_in}
 use Rattle.retry_ladder.proofs.PageCodes.{map_same}
+use Rattle.shared_lemmas.proofs.Lists.{no_mark}
 
 -- a decoding goes over the codewords one by one
 first_kept :
@@ -83,17 +84,11 @@ page_tested coding accepts finds sizes flags word before b is all joins as_long 
     (joins ∙ (words_are_joined sizes word (part_fits sizes) as_long).1)
     ∙ ap (λ (t : Bool). elim t as (λ _. PageState) [ true ↦ whole word | false ↦ partly (none_kept coding) ]) e
 
--- without flags nothing is kept
-no_flag : (n f : ℕ) → get_or (replicate n false) f false ≡ false
-no_flag zero f = refl
-no_flag (suc n) zero = refl
-no_flag (suc n) (suc f) = no_flag n f
-
 no_flags : (sizes : Sizes) (n : ℕ) (word : List ℕ) (a k : ℕ) → map (kept_at sizes (replicate n false) word) (range_with_len a k) ≡ replicate k None
 no_flags sizes n word a zero = refl
 no_flags sizes n word a (suc k) =
     ap (λ (flag : Bool). cond flag (Some (code_in sizes word a)) None ∷ map (kept_at sizes (replicate n false) word) (range_with_len (a + 1) k))
-    (no_flag n a)
+    (no_mark n a)
     ∙ ap (λ (rest : List (Option (List ℕ))). None ∷ rest) (no_flags sizes n word (a + 1) k)
 
 pub none_is_kept : (sizes : Sizes) (flags : List Bool) (n : ℕ) (word : List ℕ) → flags ≡ replicate n false → kept_in sizes flags word ≡ replicate sizes.words None

@@ -17,6 +17,7 @@ use Rattle.ssd_geo.specs.PageWord.{code_in}
 use Rattle.ssd_geo.specs.Senses.{five_senses, sense_in}
 use Rattle.page_head.proofs.PutParts.{part_fits}
 use Rattle.retry_ladder.specs.Decoder.{IsDecoded}
+use Rattle.shared_lemmas.proofs.Lists.{sum_by-range_more}
 
 -- with one codeword the page's word has its length
 pub one_length : (sizes : Sizes) → sizes.words ≡ 1 → word_bytes_of sizes ≡ code_bytes_of sizes
@@ -118,18 +119,10 @@ few_checks m bits rows lifting = omega (arith, checks_below m bits, mul-le m.mb 
 abbrev pub failed_so_far : Sizes → BaseMatrix → List ℕ → ℕ → ℕ
 failed_so_far sizes m sense n = sum_by (λ f. failed_checks m (code_in sizes sense f)) (range_with_len 0 n)
 
-sum_more : (g : ℕ → ℕ) (n : ℕ) → sum_by g (range_with_len 0 (n + 1)) ≡ sum_by g (range_with_len 0 n) + g n
-sum_more g n =
-    let range : range_with_len 0 (n + 1) ≡ range_with_len 0 n ++ n ∷ [] =
-    sym (map-id (range_with_len 0 (n + 1)))
-    ∙ map-range_with_len_more (λ (k : ℕ). k) 0 n n (omega arith)
-    ∙ ap (λ (xs : List ℕ). xs ++ n ∷ []) (map-id (range_with_len 0 n)) in
-    ap (sum_by g) range ∙ sum_by_push g (range_with_len 0 n) n
-
 pub failed_more :
     (sizes : Sizes) (m : BaseMatrix) (sense : List ℕ) (n : ℕ) →
     failed_so_far sizes m sense (n + 1) ≡ failed_so_far sizes m sense n + failed_checks m (code_in sizes sense n)
-failed_more sizes m sense n = sum_more (λ f. failed_checks m (code_in sizes sense f)) n
+failed_more sizes m sense n = sum_by-range_more (λ f. failed_checks m (code_in sizes sense f)) n
 
 -- with one codeword they are those of the page's word
 pub failed_alone :
@@ -137,7 +130,7 @@ pub failed_alone :
     failed_checks m sense ≡ failed_so_far sizes m sense sizes.words
 failed_alone sizes m sense one as_long =
     sym (ap (failed_so_far sizes m sense) one
-    ∙ sum_more (λ f. failed_checks m (code_in sizes sense f)) 0
+    ∙ sum_by-range_more (λ f. failed_checks m (code_in sizes sense f)) 0
     ∙ zero-add (failed_checks m (code_in sizes sense 0))
     ∙ ap (failed_checks m) (only_code sizes sense 0 one (omega (arith, one)) as_long))
 

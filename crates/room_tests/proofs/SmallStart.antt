@@ -32,6 +32,7 @@ use Rattle.onfi_cmd.specs.DieState.{DieState}
 use Rattle.chan_dies.specs.DiesState.{blocks_in, die_at}
 use Rattle.chan_state.specs.Starting.{IsDieOf, MayBegin, start_of}
 use Rattle.room_tests.specs.SmallChannel.{AreSmallBlocks, IsStartDie, small_base}
+use Rattle.shared_lemmas.proofs.Lists.{no_mark}
 
 -- an item of a list of equal ones
 each_blank : (n k : ℕ) → block_at (replicate n blank_block) k ≡ blank_block
@@ -48,17 +49,10 @@ each_empty n row =
       | inr le ↦ get_or_past (replicate n Row.Empty) row Row.Empty (omega (arith, length-replicate n Row.Empty))
     ]
 
-each_false : (n k : ℕ) → get_or (replicate n false) k false ≡ false
-each_false n k =
-    elim (cases_lt k n) [
-      | inl lt ↦ get_or-replicate n k false false lt
-      | inr le ↦ get_or_past (replicate n false) k false (omega (arith, length-replicate n false))
-    ]
-
 -- no sum of bits that are 0 is odd
 even_zeros : (n : ℕ) (variables : List ℕ) → is_odd_sum (replicate n false) variables ≡ false
 even_zeros n [] = refl
-even_zeros n (variable ∷ variables) = λ i. bit_sum (each_false n variable i) (even_zeros n variables i)
+even_zeros n (variable ∷ variables) = λ i. bit_sum (no_mark n variable i) (even_zeros n variables i)
 
 -- three dies that were just mounted
 pub record AreStartDies (shape : Shape) (weak : List Weak) (zeroth one two : DieState) : Type 0 where

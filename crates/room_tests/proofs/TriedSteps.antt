@@ -49,6 +49,7 @@ use Rattle.chan_state.specs.declared.answers.WriteAnswer.{WriteAnswer}
 use Rattle.chan_state.specs.declared.answers.WriteAnswer.TheVariants as write
 use Rattle.room_tests.specs.OpenLooks.{IsFresh, IsFreshIfFound, IsFreshIfLive, IsLooked, KeepsLooks}
 use Rattle.room_tests.specs.SmallChannel.{IsTried}
+use Rattle.shared_lemmas.proofs.Tests.{is_other}
 
 -- an entry that is of no look that is to come
 abbrev pub IsTame : ℕ → Kind → Type 0
@@ -77,27 +78,24 @@ abbrev pub StaysOrAdds : ChannelState → ChannelState → Type 0
 StaysOrAdds old new =
     (new ≡ old) ⊎ ((tag : Tag) × (kind : Kind) × IsPlain (length old.past) kind × AddsEntry old new tag kind)
 
-other : (a b : ℕ) → a < b → (a == b) ≡ false
-other a b h = grind (arith, nat_tests)
-
 not_ahead : (now at : ℕ) (kind : Kind) → now ≤ at → IsTame now kind → is_sense_of at kind ≡ false
-not_ahead now at (Kind.Sense named place level) le tame = other named at (omega arith)
+not_ahead now at (Kind.Sense named place level) le tame = is_other named at (omega arith)
 not_ahead now at kind le tame = refl
 
 no_fault_ahead : (now at : ℕ) (kind : Kind) → now ≤ at → IsTame now kind → is_fault_sense_of at kind ≡ false
-no_fault_ahead now at (Kind.FaultSense named place level) le tame = other named at (omega arith)
+no_fault_ahead now at (Kind.FaultSense named place level) le tame = is_other named at (omega arith)
 no_fault_ahead now at kind le tame = refl
 
 not_recovered_ahead : (now at : ℕ) (kind : Kind) → now ≤ at → IsTame now kind → is_after_recovered at kind ≡ false
-not_recovered_ahead now at (Kind.Move named slot) le tame = other named at (omega arith)
-not_recovered_ahead now at (Kind.Changed named found) le tame = other named at (omega arith)
-not_recovered_ahead now at (Kind.Stay named worn) le tame = other named at (omega arith)
-not_recovered_ahead now at (Kind.BadCopy named slot die fault) le tame = other named at (omega arith)
+not_recovered_ahead now at (Kind.Move named slot) le tame = is_other named at (omega arith)
+not_recovered_ahead now at (Kind.Changed named found) le tame = is_other named at (omega arith)
+not_recovered_ahead now at (Kind.Stay named worn) le tame = is_other named at (omega arith)
+not_recovered_ahead now at (Kind.BadCopy named slot die fault) le tame = is_other named at (omega arith)
 not_recovered_ahead now at kind le tame = refl
 
 not_uncorrectable_ahead : (now at : ℕ) (kind : Kind) → now ≤ at → IsTame now kind → is_after_uncorrectable at kind ≡ false
-not_uncorrectable_ahead now at (Kind.Condemn named) le tame = other named at (omega arith)
-not_uncorrectable_ahead now at (Kind.Changed named found) le tame = other named at (omega arith)
+not_uncorrectable_ahead now at (Kind.Condemn named) le tame = is_other named at (omega arith)
+not_uncorrectable_ahead now at (Kind.Changed named found) le tame = is_other named at (omega arith)
 not_uncorrectable_ahead now at kind le tame = refl
 
 none_more : (past : List Entry) (entry : Entry) (at : ℕ) → is_sense_of at entry.kind ≡ false → senses_had past at ≡ 0

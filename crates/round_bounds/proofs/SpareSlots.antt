@@ -2,7 +2,7 @@
 -- erased the host has room.
 use Rattle.std.proofs.Common.{◌≡◌, ℕ, ◌+◌, ◌<◌, ◌≤◌, ◌&&◌, ◌||◌, nat_lt, nat_le, Bool, true, false, List, ◌∷◌, length, get_or, refl, ap, sym, subst, ◌∙◌, Option, Some, None, arith, ◌⊎◌, inl, inr}
 use Rattle.std.specs.Prelude.{IsSomeAnd, is_some, unwrap_or}
-use Rattle.std.proofs.lemmas.Bool.{and_parts, false≢true, or_cases, or_left, or_right}
+use Rattle.std.proofs.lemmas.Bool.{and_parts, false≢true, or_cases, or_left, or_right, ltb-true}
 use Rattle.std.proofs.lemmas.Bool.Decides.{nat_tests}
 use Rattle.std.proofs.lemmas.List.FromFn.{get_or-map-range_with_len}
 use Rattle.ssd_geo.specs.Ladder.{LadderState}
@@ -26,7 +26,7 @@ use Rattle.ssd_histories.specs.Policies as Policies
 use Rattle.ssd_histories.specs.Reserve.{is_bad_kind}
 use Rattle.ssd_histories.specs.Room.{has_garbage, has_host_room, is_victim_now, live_of, table_of}
 use Rattle.ssd_histories.specs.States as States
-use Rattle.ssd_histories.proofs.BlockSteps.{below, blocks_after_entry, candidate_sealed}
+use Rattle.ssd_histories.proofs.BlockSteps.{blocks_after_entry, candidate_sealed, victim_no_frontier}
 use Rattle.ssd_histories.proofs.OneOfEach.{found_block}
 use Rattle.ssd_histories.proofs.UsedSlots.{block_is, made}
 use Rattle.serial_laws.proofs.LookLists.{is_end_kind}
@@ -36,7 +36,9 @@ use Rattle.history_laws.proofs.LivePages.{live_after, live_lost}
 use Rattle.history_laws.proofs.ProgrammedBlocks.{FitsVictim, IsUsedNext, after_next, copy_keeps_reserve, free_is_reserve, host_leaves_free, reserve_over, reserve_parts, reserve_with_less}
 use Rattle.history_laws.proofs.VictimPages.{copies_take_pages, victims_gain_no_pages}
 use Rattle.round_bounds.proofs.BadBlocks.{stands_in_list}
-use Rattle.round_bounds.proofs.VictimSteps.{first_stays, pick_makes_victim}
+use Rattle.round_bounds.proofs.VictimSteps.{pick_makes_victim}
+use Rattle.ssd_histories.proofs.ReserveLaws.{sealed_isnt_free}
+use Rattle.shared_lemmas.proofs.Positions.{place-same}
 
 -- the live pages of each superblock, and one more
 abbrev one_more_live : List Row → ℕ → ℕ
@@ -51,10 +53,6 @@ pub record HasSpare (slots : ℕ) (blocks : List BlockBase) (rows : List Row) : 
 
 -- ---- a pick
 
-sealed_isnt_free : (state : SbState) → States.is_sealed state ≡ true → States.is_free state ≡ false
-sealed_isnt_free SbState.Free e = absurd (false≢true e)
-sealed_isnt_free state e = refl
-
 -- a candidate has fewer live pages than slots
 candidate_has_garbage : (base : ChannelBase) (past : List Entry) (sb : ℕ) → sb < base.shape.superblocks →
     has_garbage base past sb ≡ true → live_of base past sb < slots_in base
@@ -63,7 +61,7 @@ candidate_has_garbage base past sb low is =
     let told : ℕ → SbInfo = Policies.info_of (slots_in base) blocks (rows_of base past) (open_looks past) in
     let info : get_or (table_of base past) sb Policies.no_info ≡ told sb =
     get_or-map-range_with_len told 0 (length blocks) sb sb Policies.no_info (stands_in_list base past sb low) (omega arith) in
-    below (live_in (rows_of base past) sb) (slots_in base)
+    ltb-true (live_in (rows_of base past) sb) (slots_in base)
     (and_parts (States.is_sealed (Blocks.block_at blocks sb).state) (nat_lt (live_in (rows_of base past) sb) (slots_in base))
     (subst (λ (info : SbInfo). Policies.is_candidate info ≡ true) info is)).1
 
@@ -74,7 +72,7 @@ pub spare_from_pick : (ladder : List Entry → ℕ → LadderState) (base : Chan
     IsLawfulBy ladder base (made tag (Kind.Pick sb) ∷ past) →
     HasSpare (slots_in base) (blocks_of base (made tag (Kind.Pick sb) ∷ past)) (rows_of base (made tag (Kind.Pick sb) ∷ past))
 spare_from_pick ladder base past tag sb lawful =
-    let low : sb < base.shape.superblocks = below sb base.shape.superblocks lawful.1.in_range in
+    let low : sb < base.shape.superblocks = ltb-true sb base.shape.superblocks lawful.1.in_range in
     let blocks : List BlockBase = blocks_of base past in
     let victim : BlockBase = Blocks.victim_block (Blocks.block_at blocks sb) in
     let closed : Blocks.is_free_block (Blocks.block_at blocks sb) ≡ false =
@@ -200,10 +198,6 @@ victim_isnt_free : (state : SbState) → States.is_victim state ≡ true → Sta
 victim_isnt_free SbState.Free e = absurd (false≢true e)
 victim_isnt_free state e = refl
 
-victim_isnt_frontier : (state : SbState) → States.is_victim state ≡ true → States.is_frontier state ≡ false
-victim_isnt_frontier SbState.Frontier e = absurd (false≢true e)
-victim_isnt_frontier state e = refl
-
 -- where a superblock was free, or the frontier has a slot left, the host has room once one more is free
 room_by : (frontier : Option ℕ) (free : ℕ) → (2 ≤ free) ⊎ ((is_some frontier ≡ true) × (1 ≤ free)) →
     (is_some frontier && nat_le 1 free || nat_le 2 free) ≡ true
@@ -255,7 +249,7 @@ erase_leaves_room ladder base past tag sb lawful spare =
 
     not_frontier : Blocks.is_frontier_block (Blocks.block_at blocks sb) ≡ false
     not_frontier = ap {B = Bool} Blocks.is_frontier_block (block_is base past sb was.0)
-        ∙ victim_isnt_frontier (state_of base past sb) was.1
+        ∙ victim_no_frontier (state_of base past sb) was.1
 
     one_more : Blocks.free_blocks_in erased ≡ Blocks.free_blocks_in blocks + 1
     one_more = omega (
@@ -266,7 +260,7 @@ erase_leaves_room ladder base past tag sb lawful spare =
     )
 
     same_frontier : Blocks.frontier_of erased ≡ Blocks.frontier_of blocks
-    same_frontier = first_stays Blocks.is_frontier_block blocks sb block Blocks.blank_block (sym not_frontier)
+    same_frontier = place-same Blocks.is_frontier_block blocks sb block Blocks.blank_block (sym not_frontier)
 
     by_parts : (1 ≤ Blocks.free_blocks_in blocks) ⊎ FitsVictim (slots_in base) blocks (one_more_live (rows_of base past)) →
         (2 ≤ Blocks.free_blocks_in erased) ⊎

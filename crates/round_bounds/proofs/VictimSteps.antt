@@ -2,7 +2,7 @@
 -- and after an erase or a failed one there is none.
 use Rattle.std.proofs.Common.{◌≡◌, ◌≢◌, ℕ, ◌<◌, ◌≤◌, ◌==◌, ◌&&◌, ◌||◌, nat_lt, Bool, true, false, List, [], ◌∷◌, length, set, get_or, refl, ap, sym, ◌∙◌, Option, Some, None, arith}
 use Rattle.std.specs.Prelude.{count_by, if◌then◌else◌, position}
-use Rattle.std.proofs.lemmas.Bool.{and_parts, false≢true}
+use Rattle.std.proofs.lemmas.Bool.{and_parts, false≢true, ltb-true}
 use Rattle.std.proofs.lemmas.Bool.Decides.{nat_tests}
 use Rattle.std.proofs.lemmas.List.{get_or-set_other, get_or-set_same, get_or_past, length-set}
 use Rattle.std.proofs.lemmas.List.Folds.{position_or_len-set}
@@ -22,14 +22,14 @@ use Rattle.ssd_histories.specs.PastBlocks.{block_of, blocks_of, slots_in, state_
 use Rattle.ssd_histories.specs.Ranges.{has_slot}
 use Rattle.ssd_histories.specs.Room.{next_slot, victim_of}
 use Rattle.ssd_histories.specs.States as States
-use Rattle.ssd_histories.proofs.BlockSteps.{below, blocks_after_entry}
+use Rattle.ssd_histories.proofs.BlockSteps.{blocks_after_entry, usable_no_victim}
 use Rattle.ssd_histories.proofs.OneOfEach.{found_block, one_victim}
 use Rattle.ssd_histories.proofs.PinnedWords.{usable_next}
 use Rattle.ssd_histories.proofs.UsedSlots.{block_is, made, of_some, slot_in_range}
 use Rattle.history_laws.proofs.Counting.{count_set, none_pass, one_false, one_true}
 use Rattle.history_laws.proofs.KeptReserve.{blocks_after_next, next_is_used}
-use Rattle.history_laws.proofs.ProgrammedBlocks.{first_new}
 use Rattle.round_bounds.proofs.BadBlocks.{stands_in_list}
+use Rattle.shared_lemmas.proofs.Positions.{place-new, place-same}
 
 -- ---- entries that leave it
 
@@ -39,16 +39,6 @@ leaves_victim (Kind.Pick sb) = false
 leaves_victim (Kind.Erase sb) = false
 leaves_victim (Kind.BadErase sb die fault) = false
 leaves_victim _ = true
-
--- where one item is set to one that passes just if it did, the first that passes is the same
-pub first_stays : {X : Type 0} (p : X → Bool) (xs : List X) (i : ℕ) (y d : X) → p y ≡ p (get_or xs i d) →
-    position p (set xs i y) ≡ position p xs
-first_stays p xs i y d same = rw (position_or_len-set p xs i y d same, length-set) refl
-
-next_isnt_victim : (state : SbState) → (States.is_frontier state || States.is_free state) ≡ true →
-    States.is_victim state ≡ false
-next_isnt_victim SbState.Victim e = absurd (false≢true e)
-next_isnt_victim state e = refl
 
 -- a program leaves it, and so does one that fails
 programmed_leaves : (base : ChannelBase) (past : List Entry) (entry : Entry) (slot : Slot) → next_slot base past ≡ Some slot →
@@ -65,9 +55,9 @@ retired_leaves : (base : ChannelBase) (past : List Entry) (entry : Entry) (slot 
 retired_leaves base past entry slot next range after =
     let none : Blocks.is_victim_block (Blocks.block_at (blocks_of base past) slot.sb) ≡ false =
     ap {B = Bool} Blocks.is_victim_block (block_is base past slot.sb (slot_in_range base.shape slot range))
-    ∙ next_isnt_victim (state_of base past slot.sb) (usable_next base past slot next range) in
+    ∙ usable_no_victim (state_of base past slot.sb) (usable_next base past slot next range) in
     ap {B = Option ℕ} Blocks.victim_in after
-    ∙ first_stays Blocks.is_victim_block (blocks_of base past) slot.sb
+    ∙ place-same Blocks.is_victim_block (blocks_of base past) slot.sb
     (Blocks.retired_block (Blocks.block_at (blocks_of base past) slot.sb)) Blocks.blank_block (sym none)
 
 pub victim_is_left : (ladder : List Entry → ℕ → LadderState) (base : ChannelBase) (past : List Entry) (tag : Tag)
@@ -104,8 +94,8 @@ pub pick_makes_victim : (ladder : List Entry → ℕ → LadderState) (base : Ch
 pick_makes_victim ladder base past tag sb lawful =
     let blocks : List BlockBase = blocks_of base past in
     ap {B = Option ℕ} Blocks.victim_in (blocks_after_entry ladder base (made tag (Kind.Pick sb)) past lawful)
-    ∙ first_new Blocks.is_victim_block blocks sb (Blocks.victim_block (Blocks.block_at blocks sb)) Blocks.blank_block
-    (stands_in_list base past sb (below sb base.shape.superblocks lawful.1.in_range)) lawful.1.meets.no_victim refl
+    ∙ place-new Blocks.is_victim_block blocks sb (Blocks.victim_block (Blocks.block_at blocks sb)) Blocks.blank_block
+    (stands_in_list base past sb (ltb-true sb base.shape.superblocks lawful.1.in_range)) lawful.1.meets.no_victim refl
 
 -- ---- an erase takes it away
 

@@ -7,9 +7,9 @@ use Rattle.ssd_geo.specs.declared.reply.Reply.{Reply}
 use Rattle.ssd_geo.specs.declared.tag.Tag.{Tag}
 use Rattle.ssd_geo.specs.declared.trace.TraceCall.{TraceCall}
 use Rattle.ssd_histories.specs.CallsInOrder.{reply_to}
-use Rattle.serial_laws.proofs.Lists.{not_true}
 use Rattle.run_laws.specs.SerialRuns.{with_reply}
 use Rattle.run_laws.proofs.ChangedRuns.{one_or_other}
+use Rattle.std.proofs.lemmas.Bool.{false_from_ne_true}
 
 -- a reply that stands in a list stands there with more after it, and the one after all has their number
 stands_with_more : {X : Type 0} (xs : List X) (y : X) (i : ℕ) (x : X) → slice_get xs i ≡ Some x →
@@ -78,5 +78,5 @@ still_counted replies done call reply actor low counted =
         ap length (other_replies replies call.tag.actor actor reply differs) in
         let counts = sum_by_push (λ (other : TraceCall). cond (is_of_actor actor other) 1 0) done call in
         let is_other : ◌≡◌ {A = ℕ} (cond (is_of_actor actor call) 1 0) 0 =
-        ap {B = ℕ} (λ b. cond b 1 0) (not_true (is_of_actor actor call) (λ same. differs (sym (eqb-true call.tag.actor actor same)))) in
+        ap {B = ℕ} (λ b. cond b 1 0) (false_from_ne_true (is_of_actor actor call) (λ same. differs (sym (eqb-true call.tag.actor actor same)))) in
         omega (arith, lengths, counts, is_other, counted)

@@ -31,11 +31,12 @@ use Rattle.recovery_laws.proofs.Pasts.{IsMadeAt, StepLook, look_is_made_at, step
 use Rattle.recovery_laws.proofs.RecoveredReads.{HasFound, looks_found, plain_is_data, recovered_pages_stay}
 use Rattle.recovery_laws.proofs.RowWords.{has_word, rows_have_words}
 use Rattle.recovery_laws.proofs.SettledLadders.{lawful_at, recovered_find}
-use Rattle.serial_laws.proofs.Lists.{same_Some}
 use Rattle.run_laws.specs.FirstSenses.{IsNoAgeing, IsUnagedPast, ReadsBack, WordIsRead}
 use Rattle.run_laws.proofs.FirstLadders.{asks_first, recovers_first}
 use Rattle.run_laws.proofs.FreshCells.{HasFreshCells, told_words_are_fresh}
 use Rattle.run_laws.proofs.LookSenses.{none_sensed}
+use Rattle.std.proofs.lemmas.Bool.{eqb-true}
+use Rattle.std.proofs.lemmas.Option.{same_Some}
 
 -- senses that begin with a word, if there are any
 abbrev BeginsWith : List ℕ → List (List ℕ) → Type 0
@@ -46,9 +47,6 @@ begins_more : (word : List ℕ) (senses : List (List ℕ)) (sense : List ℕ) �
     (senses ≡ [] → sense ≡ word) → BeginsWith word (senses ++ sense ∷ [])
 begins_more word [] sense begins first = first refl
 begins_more word (older ∷ senses) sense begins first = begins
-
-same_number : (a b : ℕ) → (a == b) ≡ true → a ≡ b
-same_number a b e = grind (arith, nat_tests)
 
 -- what a ladder asks for
 abbrev place_in : Place → LadderState → Place
@@ -73,7 +71,7 @@ left true after before e = absurd (cc)
 left false after before e = refl
 
 -- a look senses nothing
-look_senses_none : (at : ℕ) (kind : Kind) (look : Look) → look_made at kind ≡ Some look → sense_for at kind ≡ None
+pub look_senses_none : (at : ℕ) (kind : Kind) (look : Look) → look_made at kind ≡ Some look → sense_for at kind ≡ None
 look_senses_none at (Kind.Look row found closed) look is = refl
 look_senses_none at kind look is = absurd (cc)
 
@@ -158,7 +156,7 @@ module _ (start : Start) (contents : List (Tag × List ℕ)) (reads : ReadsBack 
             ])
         by_test true e =
             begins_more word (senses_of coding start contents past at) (sensed level (levels_in start.base (page_of coding start contents past place))) before
-            (first_sense_is past tag named place level (same_number named at e) c pinned unaged is stood)
+            (first_sense_is past tag named place level (eqb-true named at e) c pinned unaged is stood)
         by_test false e = before
     sense_step past tag kind c pinned unaged is stood before = before
 
@@ -177,7 +175,7 @@ module _ (start : Start) (contents : List (Tag × List ℕ)) (reads : ReadsBack 
             (look_of past at ≡ Some look → word_looked_at coding start contents past look ≡ Some word → BeginsWith word (senses_of coding start contents past at)) →
             BeginsWith word (senses_of coding start contents (entry ∷ past) at)
         by_test true e here older =
-            let same : length past ≡ at = same_number (length past) at e in
+            let same : length past ≡ at = eqb-true (length past) at e in
             by_none (sense_for at entry.kind) _ (senses_of coding start contents past at) (look_senses_none at entry.kind look here)
             (none_sensed (ladder_of coding start contents) coding start contents past at lawful.0 (omega (arith, same)))
         by_test false e here older =
@@ -248,7 +246,7 @@ module _ (start : Start) (contents : List (Tag × List ℕ)) (reads : ReadsBack 
           plain_of start.base contents past row ≡ plain_of start.base contents (past_at past at) row) →
           plain_of start.base contents (entry ∷ past) row ≡ plain_of start.base contents (past_at (entry ∷ past) at) row
       by_test true e here before_it =
-          let same : length past ≡ at = same_number (length past) at e in
+          let same : length past ≡ at = eqb-true (length past) at e in
           look_writes_none start.base contents past entry.tag entry.kind at row look here
           ∙ ap (λ (before : List Entry). plain_of start.base contents before row)
           (sym (ap (past_at (entry ∷ past)) (sym same) ∙ past_now entry past))
@@ -359,7 +357,7 @@ module _ (start : Start) (contents : List (Tag × List ℕ)) (reads : ReadsBack 
         by_test true e =
             All-cons (Good (entry ∷ past)) at (copies_of past row)
             (carry entry past written.is_lawful at
-            (copied tag at slot lawful row data_bytes low plain step (same_number step.pin.1.row row e)))
+            (copied tag at slot lawful row data_bytes low plain step (eqb-true step.pin.1.row row e)))
             (kept row data_bytes low plain)
         by_test false e = kept row data_bytes low plain
     copies_by tag kind lawful row data_bytes low plain = kept row data_bytes low plain

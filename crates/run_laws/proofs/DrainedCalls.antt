@@ -3,11 +3,11 @@
 use Rattle.std.proofs.Common.{ℕ, ◌≡◌, ◌≢◌, ◌+◌, ◌*◌, ◌/◌, ◌%◌, ◌<◌, ◌==◌, Bool, true, false, List, [], ◌∷◌, ◌++◌, length, map, Some, refl, sym, ap, subst, ◌∙◌, inl, inr, arith, eqb-true, length-set}
 use Rattle.std.specs.Prelude.{All, slice_get, slice_set, slice_index_or}
 use Rattle.std.specs.List.{enumerate_from}
-use Rattle.std.proofs.lemmas.Bool.{cases_eq}
+use Rattle.std.proofs.lemmas.Bool.{cases_eq, false_from_ne_true}
 use Rattle.std.proofs.lemmas.List.Elements.{All-set}
-use Rattle.std.proofs.lemmas.Option.{slice_get-get_or, slice_get_within}
+use Rattle.std.proofs.lemmas.Option.{slice_get-get_or, slice_get_within, same_Some}
 use Rattle.serial_laws.proofs.DrainedPages.{fault_is_last, one_drained}
-use Rattle.serial_laws.proofs.Lists.{all_at, all_numbered, get_set_other, get_set_there, not_true, same_Some, same_number}
+use Rattle.serial_laws.proofs.Lists.{all_numbered, get_set_other, get_set_there}
 use Rattle.serial_laws.proofs.MadeCalls.{HasNoSteps, own_steps}
 use Rattle.serial_laws.proofs.MadeSteps.{steps_join}
 use Rattle.ssd_geo.specs.Coding.{coding_of}
@@ -29,6 +29,8 @@ use Rattle.run_laws.specs.ServedRuns.{DrainsTo, RefreshesOn, faults, finds_none,
 use Rattle.run_laws.proofs.ChangedRuns.{run_at, run_parts, runs_as_many, runs_changed}
 use Rattle.run_laws.proofs.MadeCalls.{run_of}
 use Rattle.run_laws.proofs.RefreshedPasts.{refreshed_leaves_looks}
+use Rattle.shared_lemmas.proofs.Lists.{all_at}
+use Rattle.shared_lemmas.proofs.Tests.{same_number}
 
 module _ (contents : List (Tag × List ℕ)) (starts : List Start) (tag : Tag) where
   -- one refresh of a drain
@@ -185,7 +187,7 @@ module _ (contents : List (Tag × List ℕ)) (starts : List Start) (tag : Tag) w
         ∙ get_set_other pasts channel own_channel one.now other ∙ had in
         let later : IsDrainedOn drained channel start past now = rest channel start past now begins there has in
         let differs : (own_channel == channel) ≡ false =
-        not_true (own_channel == channel) (λ e. other (sym (eqb-true own_channel channel e))) in
+        false_from_ne_true (own_channel == channel) (λ e. other (sym (eqb-true own_channel channel e))) in
         record {
           steps = later.steps;
           are_steps = later.are_steps;

@@ -12,11 +12,11 @@ use Rattle.ssd_geo.specs.declared.reply.Reply.{Reply}
 use Rattle.ssd_geo.specs.declared.row.Row.{Row}
 use Rattle.ssd_geo.specs.declared.slot.Slot.{Slot}
 use Rattle.ssd_geo.specs.declared.tag.Tag.{Tag}
-use Rattle.ssd_formats.proofs.TextLaws.{same_byte}
 use Rattle.ssd_histories.specs.ServedCalls.{after_look, after_sensing}
 use Rattle.run_laws.specs.RepliedCalls.{after_failed_sense}
 use Rattle.run_laws.proofs.MadeCalls.{one_step_more}
 use Rattle.run_laws.proofs.SenseSteps.{all_senses, decided_behind, sense_steps, senses_are_steps, senses_lead}
+use Rattle.shared_lemmas.proofs.Tests.{same_number}
 
 module _ (tag : Tag) (row : ℕ) (slot : Slot) (serial : ℕ) (closed : Bool) (senses : List (Place × ℤ))
     (past : List Entry) (place : Place) (level : ℤ) where
@@ -81,10 +81,10 @@ module _ (tag : Tag) (row : ℕ) (slot : Slot) (serial : ℕ) (closed : Bool) (s
       are_steps = refl;
       finds_page = refl;
       are_senses = all_senses tag (length past) senses looked;
-      is_left = same_byte (length past);
+      is_left = same_number (length past);
     };
-    of_row = same_byte row;
-    ends = same_byte (length past);
+    of_row = same_number row;
+    ends = same_number (length past);
   })
 
   pub failed_has_reply : (ladder : List Entry → ℕ → LadderState) (count : ℕ) →

@@ -12,8 +12,8 @@ use Rattle.ssd_geo.specs.declared.kind.Kind.{Kind}
 use Rattle.ssd_geo.specs.declared.reply.Reply.{Reply}
 use Rattle.ssd_geo.specs.declared.tag.Tag.{Tag}
 use Rattle.ssd_geo.specs.declared.trace.Verb.{Verb}
-use Rattle.serial_laws.proofs.NumberedTags.{same_tag}
 use Rattle.run_laws.specs.ServedRuns.{hints_after, is_put}
+use Rattle.ssd_histories.proofs.SameTags.{same_tag}
 
 -- the run of a channel with a start and a past
 abbrev pub run_of : Start → List Entry → ChannelRun

@@ -14,11 +14,11 @@ use Rattle.ssd_geo.specs.declared.kind.Kind.{Kind}
 use Rattle.ssd_geo.specs.declared.reply.Reply.{Reply}
 use Rattle.ssd_geo.specs.declared.tag.Tag.{Tag}
 use Rattle.ssd_geo.specs.declared.trace.Verb.{Verb}
-use Rattle.ssd_formats.proofs.TextLaws.{same_byte}
 use Rattle.ssd_histories.specs.ServedCalls.{after_trim}
 use Rattle.run_laws.specs.RepliedCalls.{HasAged}
 use Rattle.run_laws.proofs.MadeCalls.{IsMade, IsUnhinted, on_channel, on_run, one_step, one_step_more, pushes_none, run_of, without_hint}
-use Rattle.serial_laws.proofs.Lists.{same_Some}
+use Rattle.std.proofs.lemmas.Option.{same_Some}
+use Rattle.shared_lemmas.proofs.Tests.{same_number}
 
 -- the reply of an ageing is no hint
 age_is_unhinted : (die sb amount : ℕ) (last : Kind) (reply : Reply) → is_age_of die sb amount last ≡ true →
@@ -38,7 +38,7 @@ module _ (start : Start) (contents : List (Tag × List ℕ)) (channels channel :
         let are : steps_of tag (entry_of tag kind ∷ past) ≡ one_step tag kind past =
         one_step_more tag kind past [] no_steps in
         let is_trim : is_one (is_trim_of (page / channels)) (one_step tag kind past) ≡ true =
-        same_byte (page / channels) in
+        same_number (page / channels) in
         record {
           takes_none = refl;
           is_reply = λ runs many is.

@@ -14,17 +14,11 @@ use Rattle.ssd_geo.specs.declared.reply.Reply.{Reply}
 use Rattle.ssd_geo.specs.declared.row.Row.{Row}
 use Rattle.ssd_geo.specs.declared.slot.Slot.{Slot}
 use Rattle.ssd_geo.specs.declared.tag.Tag.{Tag}
-use Rattle.ssd_formats.proofs.TextLaws.{same_byte}
 use Rattle.ssd_histories.specs.ServedCalls.{after_leave, after_look, after_sensing}
 use Rattle.run_laws.proofs.MadeCalls.{one_step_more}
 use Rattle.run_laws.proofs.SenseSteps.{all_senses, decided_behind, sense_steps, senses_are_steps, senses_lead}
-
--- a ladder that gives a reply has an answer
-answers : (count : ℕ) (state : LadderState) (reply : Reply) → reply_of_ladder count state ≡ Some reply →
-    IsTrue (has_answer state)
-answers count (asks place level) reply is = absurd (cc)
-answers count (recovered rung word) reply is = refl
-answers count uncorrectable reply is = refl
+use Rattle.ssd_histories.proofs.SettledReplies.{replies_answered}
+use Rattle.shared_lemmas.proofs.Tests.{same_number}
 
 module _ (tag : Tag) (row : ℕ) (slot : Slot) (serial : ℕ) (closed : Bool) (senses : List (Place × ℤ))
     (past : List Entry) where
@@ -81,10 +75,10 @@ module _ (tag : Tag) (row : ℕ) (slot : Slot) (serial : ℕ) (closed : Bool) (s
           (sym (append-nil (look_step ∷ sense_steps tag (length past) senses looked)));
       finds_page = refl;
       are_senses = all_senses tag (length past) senses looked;
-      is_left = same_byte (length past);
+      is_left = same_number (length past);
     };
-    of_row = same_byte row;
-    ends = answers count (ladder has_sensed (length past)) reply is;
+    of_row = same_number row;
+    ends = replies_answered count (ladder has_sensed (length past)) reply is;
   })
 
   pub has_reply : (ladder : List Entry → ℕ → LadderState) (count : ℕ) (reply : Reply) →

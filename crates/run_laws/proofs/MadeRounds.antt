@@ -1,7 +1,7 @@
 -- A write and a collect with their rounds: each was served alone, and its reply, which its steps decide, is no hint.
 use Rattle.std.proofs.Common.{ℕ, ◌≡◌, ◌%◌, ◌/◌, true, false, List, [], ◌∷◌, Option, Some, None, refl, sym, ap, subst, ◌∙◌}
 use Rattle.std.specs.Prelude.{IsSomeAnd, option_map, slice_get, unwrap_or}
-use Rattle.std.proofs.lemmas.Option.{none-some}
+use Rattle.std.proofs.lemmas.Option.{none-some, same_Some}
 use Rattle.ssd_histories.specs.CallSteps.{CallStep, failed_die, steps_of}
 use Rattle.ssd_histories.specs.CallsInOrder.{ladder_in, steps_on}
 use Rattle.ssd_histories.specs.Replies.{collect_decided, collect_reply, first_reply, write_decided, write_reply}
@@ -14,7 +14,6 @@ use Rattle.ssd_geo.specs.declared.reply.Reply.{Reply}
 use Rattle.ssd_geo.specs.declared.tag.Tag.{Tag}
 use Rattle.ssd_geo.specs.declared.trace.Content.{Content}
 use Rattle.ssd_geo.specs.declared.trace.Verb.{Verb}
-use Rattle.serial_laws.proofs.Lists.{same_Some}
 use Rattle.serial_laws.proofs.MadeCalls.{own_steps}
 use Rattle.run_laws.specs.RepliedCalls.{HasCollected, HasWritten}
 use Rattle.run_laws.proofs.MadeCalls.{IsMade, IsUnhinted, on_channel, on_run, pushes_none, run_of, without_hint}

@@ -9,9 +9,9 @@ use Rattle.ssd_geo.specs.declared.entry.Entry.{Entry}
 use Rattle.ssd_geo.specs.declared.kind.Kind.{Kind}
 use Rattle.ssd_geo.specs.declared.place.Place.{Place}
 use Rattle.ssd_geo.specs.declared.tag.Tag.{Tag}
-use Rattle.ssd_formats.proofs.TextLaws.{same_byte}
 use Rattle.ssd_histories.specs.ServedCalls.{after_senses}
 use Rattle.run_laws.proofs.MadeCalls.{one_step_more}
+use Rattle.shared_lemmas.proofs.Tests.{same_number}
 
 -- the steps of some senses, from a past on
 abbrev pub sense_steps : Tag → ℕ → List (Place × ℤ) → List Entry → List CallStep
@@ -36,7 +36,7 @@ module _ (tag : Tag) (at : ℕ) where
       list_all (λ step. is_sense_of at step.entry.kind) (sense_steps tag at senses past) ≡ true
   all_senses [] past = refl
   all_senses (sensed ∷ more) past =
-      rw (same_byte at) (all_senses more (entry_of tag (Kind.Sense at sensed.0 sensed.1) ∷ past))
+      rw (same_number at) (all_senses more (entry_of tag (Kind.Sense at sensed.0 sensed.1) ∷ past))
 
   -- the first step that decides a reply stands behind them
   pub decided_behind : {R : Type 0} (decided : CallStep → Option R) (senses : List (Place × ℤ))

@@ -5,7 +5,7 @@ use Rattle.std.specs.Prelude.{All, count_by, slice_get, slice_set, sum_by}
 use Rattle.std.proofs.lemmas.List.{length-map}
 use Rattle.std.proofs.lemmas.List.Elements.{All-replicate, All-set}
 use Rattle.std.proofs.lemmas.Option.{slice_get_within}
-use Rattle.serial_laws.proofs.Lists.{all_at, sum_of_none}
+use Rattle.serial_laws.proofs.Lists.{sum_of_none}
 use Rattle.serial_laws.proofs.MadeCalls.{HasNoSteps}
 use Rattle.ssd_formats.specs.RunText.{is_hinted, taken_by}
 use Rattle.ssd_geo.specs.declared.entry.Entry.{Entry}
@@ -26,6 +26,7 @@ use Rattle.run_laws.proofs.MadeCalls.{IsMade, pushed, run_of}
 use Rattle.run_laws.proofs.QueuedHints.{IsQueueCounted, hints_with_more, one_hint, queue_after, queue_is_counted, taken_with_more}
 use Rattle.run_laws.proofs.ServedFronts.{none_before, number, serves_one_more, serving_begins}
 use Rattle.run_laws.proofs.RepliedVerbs.{call_is_made}
+use Rattle.shared_lemmas.proofs.Lists.{all_at}
 
 module _ (contents : List (Tag × List ℕ)) (starts : List Start) (actors : ℕ) (done rest : List TraceCall) (call : TraceCall)
     (reply : Reply) (replies : List (List Reply)) (pasts : List (List Entry)) (hints : List ℕ) (dropped : ℕ)

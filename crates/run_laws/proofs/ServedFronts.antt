@@ -6,9 +6,9 @@ use Rattle.std.specs.Option.{ForSome}
 use Rattle.std.proofs.lemmas.List.{length-replicate}
 use Rattle.std.proofs.lemmas.List.Elements.{All-append, All-cons, All-get_or, All-nil, All-replicate, All-tail, All-weaker}
 use Rattle.std.proofs.lemmas.List.Sums.{sum_by_push}
-use Rattle.std.proofs.lemmas.Option.{get_or_from_slice_get, none-some, slice_get_past, slice_get_within}
+use Rattle.std.proofs.lemmas.Option.{get_or_from_slice_get, none-some, slice_get_past, slice_get_within, same_Some}
 use Rattle.serial_laws.proofs.GrownPasts.{steps_stay}
-use Rattle.serial_laws.proofs.Lists.{Pairwise, all_both, all_numbered, pairs_all, pairs_same, same_Some, same_number}
+use Rattle.serial_laws.proofs.Lists.{Pairwise, all_both, all_numbered, pairs_all, pairs_same}
 use Rattle.serial_laws.proofs.MadeCalls.{HasNoSteps, IsGrownRun, run_itself}
 use Rattle.serial_laws.proofs.MovedReplies.{reply_stays}
 use Rattle.serial_laws.proofs.NumberedTags.{IsBelow, IsLate, are_late, counts_grow, counts_in, later_tag, numbered_back, numbered_front, numbers_are_below, other_way}
@@ -30,6 +30,7 @@ use Rattle.run_laws.specs.Runs.{channels_of, data_in}
 use Rattle.run_laws.specs.SerialRuns.{HasServed, ServedFrontsStop, ServesNext, ServesOneMore, ServingBegins, state_of, with_reply}
 use Rattle.run_laws.proofs.AddedReplies.{new_reply_there, reply_there, still_counted}
 use Rattle.run_laws.proofs.SerialHeadline.{all_answered, serial_stops_hold}
+use Rattle.shared_lemmas.proofs.Tests.{same_number}
 
 -- calls stay served where the replies grow
 served_with : (contents : List (Tag × List ℕ)) (replies more : List (List Reply)) (channels : ℕ) →

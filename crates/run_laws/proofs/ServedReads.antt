@@ -3,7 +3,7 @@
 use Rattle.std.proofs.Common.{ℕ, suc, zero, ◌≡◌, ◌%◌, ◌/◌, ◌==◌, Bool, true, false, List, [], ◌∷◌, length, ℤ, Some, refl, sym, ap, subst, ◌∙◌, inl, arith}
 use Rattle.std.specs.Prelude.{slice_get, slice_set}
 use Rattle.std.proofs.lemmas.Bool.Decides.{nat_tests}
-use Rattle.std.proofs.lemmas.Option.{slice_get_within}
+use Rattle.std.proofs.lemmas.Option.{slice_get_within, same_Some}
 use Rattle.ssd_histories.specs.CallSteps.{CallStep, is_look_of_none, steps_of}
 use Rattle.ssd_histories.specs.CallsInOrder.{ladder_in, steps_on}
 use Rattle.ssd_geo.specs.Coding.{coding_of}
@@ -23,14 +23,13 @@ use Rattle.ssd_geo.specs.declared.row.Row.{Row}
 use Rattle.ssd_geo.specs.declared.slot.Slot.{Slot}
 use Rattle.ssd_geo.specs.declared.tag.Tag.{Tag}
 use Rattle.ssd_geo.specs.declared.trace.Verb.{Verb}
-use Rattle.ssd_formats.proofs.TextLaws.{same_byte}
 use Rattle.ssd_histories.specs.ServedCalls.{after_leave, after_lone_look, after_sensing, reply_to_none}
 use Rattle.run_laws.specs.RepliedCalls.{after_failed_sense}
 use Rattle.run_laws.proofs.ChangedRuns.{get_set}
 use Rattle.run_laws.proofs.MadeCalls.{IsMade, on_channel, on_run, one_step, one_step_more, run_of, with_hint_of}
 use Rattle.run_laws.proofs.FailedReads.{failed_has_reply, failed_steps, failed_steps_are, failed_steps_lead, is_failed_read}
 use Rattle.run_laws.proofs.MadeReads.{has_reply, is_read, read_steps, steps_are, steps_lead}
-use Rattle.serial_laws.proofs.Lists.{same_Some}
+use Rattle.shared_lemmas.proofs.Tests.{same_number}
 
 -- a reply of a read is a hint in a history just where it counts as one in a run
 pub hint_is : (reply : Reply) → is_hint (Some reply) ≡ is_hinted reply
@@ -115,7 +114,7 @@ module _ (start : Start) (contents : List (Tag × List ℕ)) (row : ℕ) (tag : 
         steps = one_step tag kind past;
         are = one_step_more tag kind past [] no_steps;
         lead = (refl, refl, refl);
-        is_read = inl (rw (is_none, same_byte row) refl);
+        is_read = inl (rw (is_none, same_number row) refl);
         replies = replies (ladder_of (coding_of start.base) start contents);
       }
 

@@ -4,7 +4,7 @@ use Rattle.std.proofs.Common.{ℕ, suc, ◌≡◌, ◌+◌, ◌-◌, ◌*◌, �
 use Rattle.std.specs.Prelude.{IsSomeAnd}
 use Rattle.std.specs.List.{list_all}
 use Rattle.std.proofs.Math.Nat.{mul-le-mul}
-use Rattle.std.proofs.lemmas.Bool.{and_parts, false≢true}
+use Rattle.std.proofs.lemmas.Bool.{and_parts, false≢true, leb-true}
 use Rattle.std.proofs.lemmas.Bool.Decides.{nat_tests}
 use Rattle.ssd_formats.proofs.HeadLaws.{within_is}
 use Rattle.ssd_geo.proofs.LadderBound.{ladders_end}
@@ -36,20 +36,18 @@ use Rattle.ssd_histories.specs.ServedCalls.{HasFoundNone, HasReadPage, after_loo
 use Rattle.ssd_histories.specs.Standing.{IsStart}
 use Rattle.ssd_histories.specs.Start.{Start}
 use Rattle.serial_laws.proofs.LeftLooks.{AreStepsApart, steps_apart}
-use Rattle.serial_laws.proofs.Lists.{same_number}
 use Rattle.run_laws.specs.RepliedCalls.{HasFailedRead, IsRepliedBy, WasRefreshed}
 use Rattle.run_laws.proofs.RefreshedPasts.{look_asks_room}
 use Rattle.run_laws.specs.StoppedRuns.{IsStoppedBy}
 use Rattle.serial_laws.proofs.CutCalls.{IsLookMade, cut_keeps, is_outer, of_collect, of_write, pieces_keep}
-
-room_of : (n limit : ℕ) → nat_le n limit ≡ true → n ≤ limit
-room_of n limit e = grind (arith, nat_tests)
+use Rattle.shared_lemmas.proofs.Tests.{same_number}
+use Rattle.ssd_histories.proofs.CountedSteps.{steps_long}
 
 step_fits : (limit : ℕ) (past : List Entry) → has_step_room limit past ≡ true → length past + 1 ≤ limit
-step_fits limit past room = let all = room_of (length past + 256 * length (open_looks past) + 1) limit room in omega (arith, all)
+step_fits limit past room = let all = leb-true (length past + 256 * length (open_looks past) + 1) limit room in omega (arith, all)
 
 look_fits : (limit : ℕ) (past : List Entry) → has_look_room limit past ≡ true → length past + 256 ≤ limit
-look_fits limit past room = let all = room_of (length past + 256 * (length (open_looks past) + 1)) limit room in omega (arith, all)
+look_fits limit past room = let all = leb-true (length past + 256 * (length (open_looks past) + 1)) limit room in omega (arith, all)
 
 -- a past after some senses is longer by them
 after_long : (tag : Tag) (at : ℕ) (senses : List (Place × ℤ)) (past : List Entry) →
@@ -57,13 +55,6 @@ after_long : (tag : Tag) (at : ℕ) (senses : List (Place × ℤ)) (past : List 
 after_long tag at [] past = omega arith
 after_long tag at (one ∷ more) past =
     let rest = after_long tag at more (entry_of tag (Kind.Sense at one.0 one.1) ∷ past) in omega (arith, rest)
-
--- so it is after steps
-steps_long : (tag : Tag) (before after : List Entry) (steps : List CallStep) → AreStepsFrom tag before steps after →
-    length after ≡ length before + length steps
-steps_long tag before after [] are = let same : length before ≡ length after = ap (λ (past : List Entry). length past) are in omega (arith, same)
-steps_long tag before after (step ∷ steps) are =
-    let rest = steps_long tag (step.entry ∷ before) after steps are.2 in omega (arith, rest)
 
 -- the senses that an entry adds to a look's
 one_sense : (at : ℕ) (kind : Kind) (older : List (List ℕ)) (given : Place × ℤ → List ℕ) → is_sense_of at kind ≡ true →

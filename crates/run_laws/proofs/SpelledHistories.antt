@@ -2,7 +2,7 @@
 use Rattle.std.proofs.Common.{ℕ, ◌≡◌, ◌≤◌, nat_le, true, List, [], ◌∷◌, length, map, refl, sym, ap, subst, ◌∙◌, arith}
 use Rattle.std.specs.Prelude.{All}
 use Rattle.std.specs.List.{list_all}
-use Rattle.std.proofs.lemmas.Bool.{and_from, and_parts}
+use Rattle.std.proofs.lemmas.Bool.{and_from, and_parts, le-leb}
 use Rattle.std.proofs.lemmas.Bool.Decides.{nat_tests}
 use Rattle.std.proofs.lemmas.List.{length-map, length-reverse}
 use Rattle.std.proofs.lemmas.List.Elements.{All-head, All-tail}
@@ -11,9 +11,6 @@ use Rattle.ssd_formats.specs.HistoryText.{are_spelled_histories, is_spelled_entr
 use Rattle.ssd_geo.specs.declared.entry.Entry.{Entry}
 use Rattle.ssd_histories.proofs.Histories.{histories_reverse}
 use Rattle.ssd_histories.specs.History.{history_of}
-
-le_is : (a b : ℕ) → a ≤ b → nat_le a b ≡ true
-le_is a b low = grind (arith, nat_tests)
 
 all_reversed : (past : List Entry) → list_all is_spelled_entry past ≡ true → list_all is_spelled_entry (history_of past) ≡ true
 all_reversed [] spelled = refl
@@ -32,7 +29,7 @@ pub record IsSpelledPast (past : List Entry) : Type 0 where
 spelled_history : (past : List Entry) → IsSpelledPast past → is_spelled_history (history_of past) ≡ true
 spelled_history past is =
     and_from (nat_le (length (history_of past)) most_entries) (list_all is_spelled_entry (history_of past))
-    (le_is (length (history_of past)) most_entries
+    (le-leb (length (history_of past)) most_entries
     (subst (λ (n : ℕ). n ≤ most_entries) (sym (length-reverse past)) is.short))
     (all_reversed past is.spelled)
 
@@ -46,4 +43,4 @@ pub spelled_histories : (pasts : List (List Entry)) → length pasts ≤ 256 →
     are_spelled_histories (map history_of pasts) ≡ true
 spelled_histories pasts few all =
     and_from (nat_le (length (map history_of pasts)) 256) (list_all is_spelled_history (map history_of pasts))
-    (le_is (length (map history_of pasts)) 256 (subst (λ (n : ℕ). n ≤ 256) (sym (length-map pasts history_of)) few)) (spelled_all pasts all)
+    (le-leb (length (map history_of pasts)) 256 (subst (λ (n : ℕ). n ≤ 256) (sym (length-map pasts history_of)) few)) (spelled_all pasts all)

@@ -43,7 +43,7 @@ use Rattle.run_laws.specs.SpelledPasts.{IsSmallEntry, IsSmallKind, IsSmallTag, L
 use Rattle.run_laws.proofs.LookSenses.{found_below, open_looks_began}
 use Rattle.run_laws.proofs.SpelledLadders.{AsksShort, ladder_asks_short}
 
-three : (a b c : Bool) → a ≡ true → b ≡ true → c ≡ true → (a && b && c) ≡ true
+pub three : (a b c : Bool) → a ≡ true → b ≡ true → c ≡ true → (a && b && c) ≡ true
 three true true c is_a is_b is_c = is_c
 three true false c is_a is_b is_c = absurd (cc)
 three false b c is_a is_b is_c = absurd (cc)
@@ -194,7 +194,7 @@ module _ (start : Start) (is_start : IsStart start) where
       by_look (Some look) = changed (look.row == row) Row.Lost before tt held
   serial_step past spelled tag kind small row before held = held
 
-  row_serial : HasSmallSerials start.base → (past : List Entry) → list_all is_spelled_entry past ≡ true → (row : ℕ) →
+  pub row_serial : HasSmallSerials start.base → (past : List Entry) → list_all is_spelled_entry past ≡ true → (row : ℕ) →
       HasSmallSerial (row_of start.base past row)
   row_serial serials [] spelled row = serials row
   row_serial serials (entry ∷ past) spelled row =

@@ -26,10 +26,9 @@ use Rattle.ssd_geo.specs.declared.row.Row.{Row}
 use Rattle.ssd_geo.specs.declared.tag.Tag.{Tag}
 use Rattle.ssd_geo.specs.declared.trace.TraceCall.{TraceCall}
 use Rattle.ssd_geo.specs.declared.trace.Verb.{Verb}
-use Rattle.ssd_formats.proofs.TextLaws.{same_byte}
 use Rattle.serial_laws.proofs.CutCalls.{cut_opens_none, of_collect, of_write}
 use Rattle.serial_laws.proofs.LeftLooks.{serial_calls_leave_looks}
-use Rattle.serial_laws.proofs.Lists.{Pairwise, all_at}
+use Rattle.serial_laws.proofs.Lists.{Pairwise}
 use Rattle.serial_laws.proofs.MadeCalls.{IsGrownRun}
 use Rattle.serial_laws.proofs.ServedVerbs.{call_is_cut}
 use Rattle.run_laws.specs.Headline.{IsStoppedRun}
@@ -42,19 +41,21 @@ use Rattle.run_laws.proofs.DrainedCalls.{refresh_is_drained, refresh_is_lawful, 
 use Rattle.run_laws.proofs.MadeCalls.{on_channel, one_step, run_of, same_Some}
 use Rattle.run_laws.proofs.SerialHeadline.{serial_stops_hold}
 use Rattle.run_laws.proofs.ServedFronts.{none_before, stop_is, stopped_call_is}
+use Rattle.shared_lemmas.proofs.Lists.{all_at}
+use Rattle.shared_lemmas.proofs.Tests.{same_number}
 
 -- an entry that makes a call of a verb whole, where the call has no other
 looks_alone : (tag : Tag) (row : ℕ) (past : List Entry) →
     is_lone_look row (one_step tag (Kind.Look row Row.Empty false) past) ≡ true
-looks_alone tag row past = same_byte row
+looks_alone tag row past = same_number row
 
 trims_alone : (tag : Tag) (row : ℕ) (past : List Entry) →
     is_one (is_trim_of row) (one_step tag (Kind.Trim row) past) ≡ true
-trims_alone tag row past = same_byte row
+trims_alone tag row past = same_number row
 
 ages_alone : (tag : Tag) (die sb amount : ℕ) (past : List Entry) →
     is_one (is_age_of die sb amount) (one_step tag (Kind.Age die sb amount) past) ≡ true
-ages_alone tag die sb amount past = rw (same_byte die, same_byte sb, same_byte amount) refl
+ages_alone tag die sb amount past = rw (same_number die, same_number sb, same_number amount) refl
 
 -- a call that stopped leaves none of its looks open
 stop_opens_none : (start : Start) (contents : List (Tag × List ℕ)) (channels : ℕ) (tag : Tag) (verb : Verb)

@@ -3,7 +3,7 @@ use Rattle.std.proofs.Common.{ℕ, ◌≡◌, false, List, [], ◌∷◌, ◌++�
 use Rattle.std.specs.Prelude.{All}
 use Rattle.std.specs.List.{cons_option}
 use Rattle.std.proofs.lemmas.List.Elements.{All-nil, All-cons, All-head, All-tail}
-use Rattle.serial_laws.proofs.NumberedTags.{IsBelow, counts_in, later_tag, numbered_back, numbered_front, numbers_are_below, other_way, same_tag}
+use Rattle.serial_laws.proofs.NumberedTags.{IsBelow, counts_in, later_tag, numbered_back, numbered_front, numbers_are_below, other_way}
 use Rattle.ssd_formats.specs.TraceText.{content_bytes, contents_of, written_by}
 use Rattle.ssd_geo.specs.declared.tag.Tag.{Tag}
 use Rattle.ssd_geo.specs.declared.trace.Content.{Content}
@@ -12,6 +12,7 @@ use Rattle.ssd_geo.specs.declared.trace.Verb.{Verb}
 use Rattle.ssd_histories.specs.History.{is_same_tag}
 use Rattle.ssd_histories.specs.Start.{data_of}
 use Rattle.run_laws.specs.ServedRuns.{TagsGiveData}
+use Rattle.ssd_histories.proofs.SameTags.{same_tag}
 
 -- the data of a write are found behind calls of other tags
 data_found : (count : ℕ) (before after : List TraceCall) (tag : Tag) (page : ℕ) (content : Content) → All (λ call. is_same_tag call.tag tag ≡ false) before → data_of (contents_of count (before ++ record { tag = tag; verb = Verb.Write page content } ∷ after)) tag ≡ content_bytes count content

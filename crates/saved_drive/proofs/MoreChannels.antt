@@ -2,7 +2,7 @@
 use Rattle.std.proofs.Common.{ℕ, zero, suc, ◌≡◌, ◌*◌, ◌<◌, ◌⊎◌, List, [], ◌∷◌, ◌++◌, drop, length, map, get_or, slice_get, take, Option, Some, None, inl, inr, refl, sym, ap, subst, ◌∙◌, add-zero, arith}
 use Rattle.std.specs.List.{drop-map, take-map}
 use Rattle.std.proofs.lemmas.List.{get_or-drop, length-map, map-append}
-use Rattle.std.proofs.lemmas.Option.{slice_get_read, slice_get_within}
+use Rattle.std.proofs.lemmas.Option.{slice_get_read, slice_get_within, same_Some}
 use Rattle.blank_drive.proofs.BegunChannels.{view_is}
 use Rattle.chan_state.specs.ChannelState.{ChannelState}
 use Rattle.chan_state.specs.Starting.{HasBegun}
@@ -37,13 +37,9 @@ none_begun bases limit count dies views channels none = record {
       absurd (omega (arith, nowhere, ap (λ (all : List ChannelState). length all) none));
 }
 
--- what is at a place of a list with one more at its end
-same_of : {A : Type 0} (x y : A) → ◌≡◌ {A = Option A} (Some x) (Some y) → x ≡ y
-same_of x y same = cc
-
 at_end : {A : Type 0} (before : List A) (next : A) (number : ℕ) (x : A) → slice_get (before ++ next ∷ []) number ≡ Some x
     → (slice_get before number ≡ Some x) ⊎ ((length before ≡ number) × (next ≡ x))
-at_end [] next zero x at = inr (refl, same_of next x at)
+at_end [] next zero x at = inr (refl, same_Some next x at)
 at_end [] next (suc number) x at = absurd (cc)
 at_end (first ∷ before) next zero x at = inl at
 at_end (first ∷ before) next (suc number) x at =

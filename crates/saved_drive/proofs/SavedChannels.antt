@@ -16,7 +16,7 @@ use Rattle.run_laws.specs.Serials.{HasSmallSerial}
 use Rattle.ssd_formats.specs.Fields.{is_below}
 use Rattle.ssd_formats.specs.ImageContents.{ChannelImage, blocks_of_saved, cells_of_block, is_saved_row, may_name}
 use Rattle.ssd_formats.specs.ImageHead.{Head, IsHead, head_of}
-use Rattle.ssd_formats.proofs.HeadLaws.{below_is, both_of}
+use Rattle.ssd_formats.proofs.HeadLaws.{below_is}
 use Rattle.ssd_geo.specs.BlockCells.{BlockCells}
 use Rattle.ssd_geo.specs.Limits.{Sizes}
 use Rattle.ssd_geo.specs.declared.base.BlockBase.{BlockBase}
@@ -28,6 +28,7 @@ use Rattle.ssd_geo.specs.declared.row.Row.TheVariants.{Empty, Lost, Page}
 use Rattle.ssd_geo.specs.declared.shape.Shape.{Shape}
 use Rattle.saved_drive.specs.Contents.{AreMounted, AreMountedOn, ContentsMayBegin, HaveImage, IsMountedAs, SavedSerialsAreSmall}
 use Rattle.saved_drive.proofs.MountedDies.{are_mounted_on}
+use Rattle.std.proofs.lemmas.Bool.{and_parts}
 
 -- a die that is of contents tells as many blocks as its channel has
 as_many_blocks : (head : Head) (channel : ℕ) (saved : ChannelImage) (base : ChannelBase) (dies : List DieState) (die : ℕ)
@@ -102,7 +103,7 @@ small_serial sizes blocks before (Page slot serial) e =
     let t1 : Bool = is_below sizes.superblocks slot.sb in
     let t2 : Bool = is_below (2 ^ 32) slot.index in
     let t3 : Bool = is_below (2 ^ 64) serial in
-    below_is (2 ^ 64) serial (both_of (t1 && t2) t3 (both_of (t1 && t2 && t3) (may_name blocks before slot) e).0).1
+    below_is (2 ^ 64) serial (and_parts (t1 && t2) t3 (and_parts (t1 && t2 && t3) (may_name blocks before slot) e).0).1
 
 pub saved_serials_are_small : SavedSerialsAreSmall
 saved_serials_are_small head channel saved base is_saved is_base row =

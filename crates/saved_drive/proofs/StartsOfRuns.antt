@@ -20,9 +20,7 @@ use Rattle.ssd_geo.specs.declared.shape.Shape.{Shape}
 use Rattle.ssd_histories.specs.Start.{Start}
 use Rattle.saved_drive.specs.Begun.{HaveBegun, StandAtStarts}
 use Rattle.saved_drive.specs.Contents.{AreOfImage}
-
-same_of : {A : Type 0} (x y : A) → ◌≡◌ {A = Option A} (Some x) (Some y) → x ≡ y
-same_of x y same = cc
+use Rattle.std.proofs.lemmas.Option.{same_Some}
 
 -- the start of a number among those of a run is of what the image tells of that channel
 pub record IsStartIn (shape : Shape) (head : Head) (limit from number : ℕ) (saved : List ChannelImage) (handed : ℕ → Handed)
@@ -42,7 +40,7 @@ start_in shape head limit (of ∷ saved) handed (suc count) from zero start at =
   there = refl;
   is =
       subst (λ (n : ℕ). start ≡ start_of shape head limit n of (handed n)) (sym (add-zero from))
-      (sym (same_of (start_of shape head limit from of (handed from)) start at));
+      (sym (same_Some (start_of shape head limit from of (handed from)) start at));
 }
 start_in shape head limit (of ∷ saved) handed (suc count) from (suc number) start at =
     let sum : from + 1 + number ≡ from + suc number = omega arith in

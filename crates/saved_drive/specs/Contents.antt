@@ -37,9 +37,9 @@ pub record AreOfImage (head : Head) (saved : List ChannelImage) (bases : List Ch
   pub as_many_saved : length saved ≡ head.sizes.channels
   pub as_many_bases : length bases ≡ head.sizes.channels
   pub each :
-      (channel : ℕ) (of : ChannelImage) (base : ChannelBase) → slice_get saved channel ≡ Some of
+      (channel : ℕ) (contents : ChannelImage) (base : ChannelBase) → slice_get saved channel ≡ Some contents
       → slice_get bases channel ≡ Some base
-      → AreOfContents head channel of base (dies_of_channel head.sizes.dies dies channel)
+      → AreOfContents head channel contents base (dies_of_channel head.sizes.dies dies channel)
 
 -- so they are of some image
 abbrev pub HaveImage : Head → List ChannelBase → List DieState → Type 0

@@ -28,7 +28,7 @@ use Rattle.ssd_histories.specs.Room.{count_of_free, count_of_garbage, has_host_r
 use Rattle.ssd_histories.specs.Rounds.{first_live_of_victim, is_that_slot, needs_room}
 use Rattle.ssd_histories.specs.SerialCalls.{SerialCollect, SerialCopies, SerialWrite, copy_faults, decides, entry_of, erase_faults, faulted, finds_none, is_idle, is_refused, may_pick, picks, round_faults, takes, writes}
 use Rattle.ssd_histories.specs.States.{is_free, is_victim}
-use Rattle.serial_laws.proofs.Lists.{same_number}
+use Rattle.shared_lemmas.proofs.Tests.{same_number}
 
 -- the first live slot of a superblock that has a live page
 record HasFirst (rows : List Row) (sb : ℕ) : Type 0 where

@@ -2,7 +2,7 @@
 use Rattle.std.proofs.Common.{ℕ, ◌≡◌, Bool, true, false, List, [], ◌∷◌, ◌++◌, Option, Some, None, refl, sym, subst, ◌∙◌, inl, inr, append_assoc, eqb-true, arith}
 use Rattle.std.specs.Prelude.{◌&&◌, ◌||◌, flat_map, is_some}
 use Rattle.std.specs.List.{list_any}
-use Rattle.std.proofs.lemmas.Bool.{and_parts, false≢true, or_cases, true≢false}
+use Rattle.std.proofs.lemmas.Bool.{and_parts, false≢true, or_cases, true≢false, or_parts}
 use Rattle.ssd_histories.specs.CallSteps.{CallStep, is_fault, is_leave_of, is_look_of_none, position_of}
 use Rattle.ssd_histories.specs.CallsInOrder.{is_age_of, is_trim_of}
 use Rattle.ssd_histories.specs.Copies.{IsLookList, IsRead, IsRefresh, is_after_recovered, is_lone_look, is_read_end, is_refresh_end, is_refreshed}
@@ -15,7 +15,6 @@ use Rattle.ssd_geo.specs.declared.entry.Entry.{Entry}
 use Rattle.ssd_geo.specs.declared.kind.Kind.{Kind}
 use Rattle.ssd_geo.specs.declared.reply.RefreshReply.{RefreshReply}
 use Rattle.ssd_geo.specs.declared.row.Row.{Row}
-use Rattle.serial_laws.proofs.Lists.{neither}
 
 -- where a step decides, there is a first one that does, and steps after those that decide don't matter
 pub first_is_some : {R : Type 0} (decided : CallStep → Option R) (steps : List CallStep) →
@@ -300,7 +299,7 @@ module _ (ladder : List Entry → ℕ → LadderState) where
   steps_tell_none : (steps : List CallStep) → has_fault steps ≡ false → tells_no_fault (refresh_reply ladder steps)
   steps_tell_none [] none = tt
   steps_tell_none (step ∷ steps) none =
-      let parts = neither (is_fault step.entry.kind) (has_fault steps) none in
+      let parts = or_parts (is_fault step.entry.kind) (has_fault steps) none in
       by_option (refresh_decided ladder step.past step.entry.kind) (step_tells_none step.past step.entry.kind parts.0)
       (steps_tell_none steps parts.1)
     where

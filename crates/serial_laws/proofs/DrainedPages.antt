@@ -3,11 +3,11 @@
 use Rattle.std.proofs.Common.{ℕ, ◌≡◌, ◌≢◌, ◌+◌, ◌*◌, ◌/◌, ◌%◌, ◌<◌, Bool, true, false, List, [], ◌∷◌, ◌++◌, length, map, Option, Some, None, refl, sym, ap, subst, ◌∙◌, inl, inr, eq-eqb, eqb-true, arith}
 use Rattle.std.specs.Prelude.{◌==◌, All, is_some, slice_get, slice_set}
 use Rattle.std.specs.List.{list_any}
-use Rattle.std.proofs.lemmas.Bool.{and_parts, cases_eq, false≢true}
+use Rattle.std.proofs.lemmas.Bool.{and_parts, cases_eq, false≢true, or_parts, false_from_ne_true}
 use Rattle.std.proofs.lemmas.List.{length-set}
 use Rattle.std.proofs.lemmas.List.Elements.{All-cons, All-head, All-nil, All-tail}
 use Rattle.std.proofs.lemmas.List.Folds.{list_any-append}
-use Rattle.std.proofs.lemmas.Option.{slice_get_within}
+use Rattle.std.proofs.lemmas.Option.{slice_get_within, same_Some}
 use Rattle.ssd_histories.specs.CallSteps.{CallStep, is_look_at_row, is_look_of_none, position_of}
 use Rattle.ssd_histories.specs.CallsInOrder.{ChannelRun, ladder_in}
 use Rattle.ssd_histories.specs.Copies.{IsRefresh, is_lone_look}
@@ -20,9 +20,10 @@ use Rattle.ssd_geo.specs.declared.kind.Kind.{Kind}
 use Rattle.ssd_geo.specs.declared.reply.RefreshReply.{RefreshReply}
 use Rattle.ssd_geo.specs.declared.tag.Tag.{Tag}
 use Rattle.serial_laws.proofs.DecidedReplies.{faultless_refresh, first_of_both, refresh_is_decided}
-use Rattle.serial_laws.proofs.Lists.{get_set_other, get_set_there, neither, not_empty, not_true, same_Some, same_first, same_number}
+use Rattle.serial_laws.proofs.Lists.{get_set_other, get_set_there, not_empty, same_first}
 use Rattle.serial_laws.proofs.LookLists.{by_kind, is_look, no_look_in_ending, no_look_leaves, no_senses_look}
 use Rattle.serial_laws.proofs.MadeSteps.{steps_join}
+use Rattle.shared_lemmas.proofs.Tests.{same_number}
 
 -- the steps of a refresh begin with its look, and have no other
 pub record HasOneLook (row : ℕ) (steps : List CallStep) : Type 0 where
@@ -74,7 +75,7 @@ module _ (ladder : List Entry → ℕ → LadderState) (channels channel : ℕ) 
       drained_on ladder channels channel (xs ++ ys) ≡ drained_on ladder channels channel ys
   none_drained [] ys none = refl
   none_drained (step ∷ xs) ys none =
-      let parts = neither (is_look step.entry.kind) (list_any (by_kind is_look) xs) none in
+      let parts = or_parts (is_look step.entry.kind) (list_any (by_kind is_look) xs) none in
       by_option (row_looked_at step.entry.kind) parts.0 (none_drained xs ys parts.1)
     where
       by_option : (option : Option ℕ) → is_some option ≡ false →
@@ -131,11 +132,11 @@ fault_is_last page reply [] none rest = refl
 fault_is_last page reply (next ∷ pages) none rest = rw (none, is_fault_last) rest
 
 -- the reply that is there
-record IsSomeReply (option : Option RefreshReply) : Type 0 where
-  reply : RefreshReply
-  is_there : option ≡ Some reply
+pub record IsSomeReply (option : Option RefreshReply) : Type 0 where
+  pub reply : RefreshReply
+  pub is_there : option ≡ Some reply
 
-some_reply : (option : Option RefreshReply) → is_some option ≡ true → IsSomeReply option
+pub some_reply : (option : Option RefreshReply) → is_some option ≡ true → IsSomeReply option
 some_reply None e = absurd (false≢true e)
 some_reply (Some reply) e = record { reply = reply; is_there = refl }
 
@@ -198,7 +199,7 @@ module _ (contents : List (Tag × List ℕ)) (channels : ℕ) (tag : Tag) where
         ∙ get_set_other before.channels i (page % channels) (record { start = one.run.start; past = one.past }) other ∙ is in
         let later : IsDrainedAs contents tag channels rest.pages i run next = rest.each i run next there also in
         let differs : (page % channels == i) ≡ false =
-        not_true (page % channels == i) (λ e. other (sym (eqb-true (page % channels) i e))) in
+        false_from_ne_true (page % channels == i) (λ e. other (sym (eqb-true (page % channels) i e))) in
         record {
           steps = later.steps;
           same_start = later.same_start;
@@ -302,9 +303,9 @@ same_pages channels (x ∷ xs) (y ∷ ys) same low each =
               (sym same) own
           | inr other ↦
               let first : (x.0 % channels == channel) ≡ false =
-              not_true (x.0 % channels == channel) (λ e. other (sym (eqb-true (x.0 % channels) channel e))) in
+              false_from_ne_true (x.0 % channels == channel) (λ e. other (sym (eqb-true (x.0 % channels) channel e))) in
               let second : (y.0 % channels == channel) ≡ false =
-              not_true (y.0 % channels == channel)
+              false_from_ne_true (y.0 % channels == channel)
               (λ e. other (sym (eqb-true (y.0 % channels) channel e) ∙ ap (λ (n : ℕ). n % channels) (sym page))) in
               skipped x xs first ∙ each channel within ∙ sym (skipped y ys second)
         ]

@@ -1,7 +1,7 @@
 -- Pasts to which one call has added entries: which steps calls have there, that call numbers never fall, and that each entry
 -- is of a call so far.
 use Rattle.std.proofs.Common.{ℕ, ◌≡◌, ◌≤◌, Bool, true, false, List, [], ◌∷◌, ◌++◌, refl, sym, ap, subst, ◌∙◌, append_assoc, append-nil, arith}
-use Rattle.std.proofs.lemmas.Bool.{and_parts}
+use Rattle.std.proofs.lemmas.Bool.{and_parts, or_right}
 use Rattle.std.specs.Prelude.{◌||◌, All}
 use Rattle.std.specs.List.{list_all, list_any}
 use Rattle.std.proofs.lemmas.List.Elements.{All-nil, All-cons, All-head, All-tail}
@@ -13,7 +13,8 @@ use Rattle.ssd_geo.specs.declared.entry.Entry.{Entry}
 use Rattle.ssd_geo.specs.declared.tag.Tag.{Tag}
 use Rattle.ssd_geo.specs.declared.trace.TraceCall.{TraceCall}
 use Rattle.serial_laws.proofs.MadeSteps.{IsGrownPast, grown_holds, none_more}
-use Rattle.serial_laws.proofs.NumberedTags.{IsBelow, is_later, known_is_below, later_tag, one_tag}
+use Rattle.serial_laws.proofs.NumberedTags.{IsBelow, is_later, known_is_below, later_tag}
+use Rattle.ssd_histories.proofs.SameTags.{one_tag}
 
 -- a call of another tag has the steps there that it had before
 pub steps_stay : (other tag : Tag) (before after : List Entry) → is_same_tag other tag ≡ false → IsGrownPast tag before after →
@@ -72,7 +73,7 @@ all_before counts tag (entry ∷ past) late below =
     rw (is_later counts tag entry late (All-head (λ (other : Entry). IsBelow counts other.tag) entry past below))
     (all_before counts tag past late (All-tail (λ (other : Entry). IsBelow counts other.tag) entry past below))
 
-no_later_itself : (tag : Tag) (entry : Entry) → entry.tag ≡ tag → is_no_later tag entry ≡ true
+pub no_later_itself : (tag : Tag) (entry : Entry) → entry.tag ≡ tag → is_no_later tag entry ≡ true
 no_later_itself tag entry own = grind arith
 
 -- call numbers never fall with the entries of the call that comes next
@@ -109,15 +110,11 @@ known_with_more calls more (entry ∷ past) known =
     let parts = and_parts (is_of_call calls entry) (list_all (is_of_call calls) past) known in
     rw (known_by_more calls more entry parts.0) (known_with_more calls more past parts.1)
 
-or_true : (b c : Bool) → c ≡ true → (b || c) ≡ true
-or_true true c e = refl
-or_true false c e = e
-
 known_last : (calls : List TraceCall) (call : TraceCall) (entry : Entry) → is_same_tag call.tag entry.tag ≡ true →
     is_of_call (calls ++ call ∷ []) entry ≡ true
 known_last calls call entry same =
     list_any-append (λ (other : TraceCall). is_same_tag other.tag entry.tag) calls (call ∷ [])
-    ∙ or_true (list_any (λ (other : TraceCall). is_same_tag other.tag entry.tag) calls)
+    ∙ or_right (list_any (λ (other : TraceCall). is_same_tag other.tag entry.tag) calls)
     (is_same_tag call.tag entry.tag || false) (rw same refl)
 
 pub known_grown : (calls : List TraceCall) (call : TraceCall) (before after : List Entry) → IsGrownPast call.tag before after →

@@ -26,9 +26,9 @@ use Rattle.ssd_geo.specs.declared.tag.Tag.{Tag}
 use Rattle.ssd_geo.specs.declared.trace.TraceCall.{TraceCall}
 use Rattle.ssd_geo.specs.declared.trace.Verb.{Verb}
 use Rattle.serial_laws.specs.SerialLooks.{SerialCallsLeaveLooks}
-use Rattle.serial_laws.proofs.Lists.{all_at}
 use Rattle.serial_laws.proofs.LookLists.{copy_ends, is_end_kind, refresh_ends}
 use Rattle.serial_laws.proofs.ServedVerbs.{read_keeps}
+use Rattle.shared_lemmas.proofs.Lists.{all_at}
 
 -- no look is open
 abbrev pub HasNoLook : List Entry → Type 0

@@ -7,38 +7,11 @@ use Rattle.std.proofs.lemmas.Grind.{common_steps}
 use Rattle.std.proofs.lemmas.List.Elements.{All-nil, All-cons, All-head, All-tail, All-get_or}
 use Rattle.std.proofs.lemmas.List.FromFn.{length-enumerate_from, get_or-enumerate_from}
 use Rattle.std.proofs.lemmas.List.Sums.{sum_by-cons, sum_by-set}
-use Rattle.std.proofs.lemmas.Option.{get_or_from_slice_get, slice_get-get_or, slice_get_within}
-
-pub same_number : (n : ℕ) → (n == n) ≡ true
-same_number n = grind (arith, common_steps)
-
-pub neither : (a b : Bool) → (a || b) ≡ false → (a ≡ false) × (b ≡ false)
-neither true b e = absurd (grind arith)
-neither false b e = (refl, e)
-
-pub not_true : (b : Bool) → (b ≡ true → ⊥) → b ≡ false
-not_true true never = absurd (never refl)
-not_true false never = refl
-
--- what holds of each item holds of the one at a place, and of each item and number
-pub all_at : {X : Type 0} (P : X → Type 0) (xs : List X) (k : ℕ) (x : X) → All P xs → slice_get xs k ≡ Some x → P x
-all_at P xs k x all is = subst P (get_or_from_slice_get xs k x x is) (All-get_or P xs k x (slice_get_within xs k x is) all)
+use Rattle.std.proofs.lemmas.Option.{get_or_from_slice_get, slice_get-get_or, slice_get_within, same_Some}
 
 -- what holds of two facts of each item together
 pub all_both : {X : Type 0} (P Q R : X → Type 0) → ((x : X) → P x → Q x → R x) → (xs : List X) → All P xs → All Q xs → All R xs
 all_both P Q R follows xs p q = λ k d within. follows (slice_index_or xs k d) (p k d within) (q k d within)
-
-pub numbered_at : {X : Type 0} (P : ℕ × X → Type 0) (xs : List X) (i : ℕ) (x : X) → All P (enumerate_from 0 xs) →
-    slice_get xs i ≡ Some x → P (i, x)
-numbered_at {X} P xs i x all is =
-    let within : i < length xs = slice_get_within xs i x is in
-    let here : P (slice_index_or (enumerate_from 0 xs) i (0, x)) =
-    All-get_or P (enumerate_from 0 xs) i (0, x) (omega (arith, within, length-enumerate_from 0 xs)) all in
-    let found : slice_index_or (enumerate_from 0 xs) i (0, x) ≡ (0 + i, slice_index_or xs i x) =
-    get_or-enumerate_from 0 xs i (0, x) within in
-    let number : 0 + i ≡ i = omega arith in
-    let item : slice_index_or xs i x ≡ x = get_or_from_slice_get xs i x x is in
-    subst P (λ j. (number j, item j)) (subst P found here)
 
 pub all_numbered : {X : Type 0} (P : ℕ × X → Type 0) (xs : List X) → ((i : ℕ) (x : X) → slice_get xs i ≡ Some x → P (i, x)) →
     All P (enumerate_from 0 xs)
@@ -48,10 +21,6 @@ all_numbered {X} P xs each i item within =
     subst P (sym (get_or-enumerate_from 0 xs i item low))
     (subst (λ (n : ℕ). P (n, slice_index_or xs i item.1)) (sym number)
     (each i (slice_index_or xs i item.1) (slice_get-get_or xs i item.1 low)))
-
--- a list that was set at a place holds there what was set, and elsewhere what it held
-pub same_Some : {A : Type 0} (a b : A) → ◌≡◌ {A = Option A} (Some a) (Some b) → a ≡ b
-same_Some a b e = grind arith
 
 pub get_set_other : {X : Type 0} (xs : List X) (i k : ℕ) (y : X) → i ≢ k → slice_get (slice_set xs k y) i ≡ slice_get xs i
 get_set_other [] i k y other = refl

@@ -3,7 +3,7 @@
 use Rattle.std.proofs.Common.{ℕ, ◌≡◌, ◌+◌, ◌≤◌, Bool, true, false, cond, List, [], ◌∷◌, ◌++◌, length, refl, sym, ap, subst, ◌∙◌, inl, inr, append_assoc, arith}
 use Rattle.std.specs.Prelude.{◌&&◌, ◌||◌, count_by, is_some}
 use Rattle.std.specs.List.{list_all, list_any}
-use Rattle.std.proofs.lemmas.Bool.{and_parts, false≢true, or_cases, true≢false}
+use Rattle.std.proofs.lemmas.Bool.{and_parts, false≢true, or_cases, true≢false, or_parts}
 use Rattle.std.proofs.lemmas.List.Folds.{list_any-append}
 use Rattle.std.proofs.lemmas.List.Sums.{count_by-le-length, sum_by-append, sum_by-cons}
 use Rattle.ssd_histories.specs.CallSteps.{CallStep, is_erase_or_bad_erase, is_fault, is_leave_of, is_look_of_page, is_pick, is_sense_of, is_stay, position_of}
@@ -15,7 +15,6 @@ use Rattle.ssd_histories.specs.Replies.{row_looked_at}
 use Rattle.ssd_histories.specs.Rounds.{ends_in_stay, ends_round, has_erase, has_fault}
 use Rattle.ssd_geo.specs.declared.entry.Entry.{Entry}
 use Rattle.ssd_geo.specs.declared.kind.Kind.{Kind}
-use Rattle.serial_laws.proofs.Lists.{neither}
 use Rattle.serial_laws.proofs.MadeSteps.{faults_in}
 
 -- a test that passes no step of a look but those between its senses and its leave
@@ -31,7 +30,7 @@ by_kind test step = test step.entry.kind
 pub no_more_than_any : (p : CallStep → Bool) (steps : List CallStep) → list_any p steps ≡ false → count_by p steps ≡ 0
 no_more_than_any p [] none = refl
 no_more_than_any p (step ∷ steps) none =
-    let parts = neither (p step) (list_any p steps) none in
+    let parts = or_parts (p step) (list_any p steps) none in
     let first : ◌≡◌ {A = ℕ} (cond (p step) 1 0) 0 = ap {B = ℕ} (λ b. cond b 1 0) parts.0 in
     omega (arith, sum_by-cons (λ (x : CallStep). cond (p x) 1 0) step steps, first, no_more_than_any p steps parts.1)
 
@@ -330,7 +329,7 @@ no_look_in_ending ladder at [] leave e = refl
 no_look_in_ending ladder at (step ∷ []) leave e = rw (no_look_ends step.entry.kind (refresh_ends ladder at step e)) refl
 no_look_in_ending ladder at (step ∷ next ∷ steps) leave e = absurd (false≢true e)
 
-at_most_one : (b : Bool) → cond b 1 0 ≤ 1
+pub at_most_one : (b : Bool) → cond b 1 0 ≤ 1
 at_most_one true = omega arith
 at_most_one false = omega arith
 

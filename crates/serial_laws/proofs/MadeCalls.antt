@@ -19,8 +19,10 @@ use Rattle.ssd_geo.specs.declared.entry.Entry.{Entry}
 use Rattle.ssd_geo.specs.declared.tag.Tag.{Tag}
 use Rattle.ssd_geo.specs.declared.trace.TraceCall.{TraceCall}
 use Rattle.serial_laws.proofs.GrownPasts.{HasMoreSteps, steps_begin}
-use Rattle.serial_laws.proofs.Lists.{Pairwise, all_at, all_set, pairs_as_many, pairs_set, same_number, sum_of_none, sum_set}
+use Rattle.serial_laws.proofs.Lists.{Pairwise, all_set, pairs_as_many, pairs_set, sum_of_none, sum_set}
 use Rattle.serial_laws.proofs.MadeSteps.{IsGrownPast, faults_in, grown_itself, made_steps, steps_grow}
+use Rattle.shared_lemmas.proofs.Lists.{all_at}
+use Rattle.shared_lemmas.proofs.Tests.{same_number}
 
 -- a channel with more entries of a call
 pub record IsGrownRun (tag : Tag) (before after : ChannelRun) : Type 0 where

@@ -36,7 +36,7 @@ done_by base after steps faulted decided ended = or_true (has_erase steps) (has_
     or_true false c e = e
 
 -- an idle note may end a collect after a round that left its victim
-end_by : (idle no_live stay nothing : Bool) → idle ≡ true → (stay ≡ true) ⊎ (nothing ≡ true) →
+pub end_by : (idle no_live stay nothing : Bool) → idle ≡ true → (stay ≡ true) ⊎ (nothing ≡ true) →
     (idle && ((no_live || stay) || nothing)) ≡ true
 end_by true true stay nothing is either = refl
 end_by true false true nothing is either = refl

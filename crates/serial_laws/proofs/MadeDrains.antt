@@ -17,10 +17,11 @@ use Rattle.ssd_histories.specs.SerialStop.{SerialDrainCut, stops, takes as takes
 use Rattle.ssd_histories.specs.Start.{Start}
 use Rattle.ssd_geo.specs.declared.tag.Tag.{Tag}
 use Rattle.ssd_geo.specs.declared.trace.Verb.{Verb}
-use Rattle.serial_laws.proofs.Lists.{IsPairedAt, Pairwise, all_at, all_numbered, paired_at, pairs_join, pairs_same, pairs_set, pairs_weaker, sum_of_none, sum_set}
+use Rattle.serial_laws.proofs.Lists.{IsPairedAt, Pairwise, all_numbered, paired_at, pairs_join, pairs_same, pairs_set, pairs_weaker, sum_of_none, sum_set}
 use Rattle.serial_laws.proofs.LookLists.{by_kind, no_more_than_any, refresh_has_one_fault, refresh_has_one_look}
 use Rattle.serial_laws.proofs.MadeCalls.{HasNoSteps, IsGrownRun, own_steps}
 use Rattle.serial_laws.proofs.MadeSteps.{faults_in, made_steps, steps_grow, steps_join}
+use Rattle.shared_lemmas.proofs.Lists.{all_at}
 
 -- refreshes that a drain made on a channel
 pub record IsDrainedRun (contents : List (Tag × List ℕ)) (tag : Tag) (run next : ChannelRun) : Type 0 where
@@ -44,7 +45,7 @@ pub record IsDrainMade (contents : List (Tag × List ℕ)) (tag : Tag) (count : 
   pub few_looks : hints_taken after tag ≤ hints_taken before tag + count
   pub few_faults : count_of_faults after tag ≤ count_of_faults before tag + 1
 
-faultless_front : (part : List CallStep) (parts : List (List CallStep)) → has_fault part ≡ false →
+pub faultless_front : (part : List CallStep) (parts : List (List CallStep)) → has_fault part ≡ false →
     is_faultless_before_last parts ≡ true → is_faultless_before_last (part ∷ parts) ≡ true
 faultless_front part [] none rest = refl
 faultless_front part (next ∷ parts) none rest = rw none rest

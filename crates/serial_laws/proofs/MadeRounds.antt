@@ -15,9 +15,9 @@ use Rattle.ssd_geo.specs.declared.base.ChannelBase.{ChannelBase}
 use Rattle.ssd_geo.specs.declared.entry.Entry.{Entry}
 use Rattle.ssd_geo.specs.declared.kind.Kind.{Kind}
 use Rattle.ssd_geo.specs.declared.tag.Tag.{Tag}
-use Rattle.serial_laws.proofs.Lists.{neither}
 use Rattle.serial_laws.proofs.LookLists.{IsCopyMade, by_kind, copy_is_made, ends_with_stay, no_more_than_any}
 use Rattle.serial_laws.proofs.MadeSteps.{faults_in, one_step_is, steps_join}
+use Rattle.std.proofs.lemmas.Bool.{or_parts}
 
 -- tests over steps that are joined
 pub none_in_both : (p : CallStep → Bool) (xs ys : List CallStep) → list_any p xs ≡ false → list_any p ys ≡ false →
@@ -177,7 +177,7 @@ no_pick_has_cause : (base : ChannelBase) (steps : List CallStep) → list_any (b
     list_all (has_cause_to_pick base) steps ≡ true
 no_pick_has_cause base [] none = refl
 no_pick_has_cause base (step ∷ steps) none =
-    let parts = neither (is_pick step.entry.kind) (list_any (by_kind is_pick) steps) none in
+    let parts = or_parts (is_pick step.entry.kind) (list_any (by_kind is_pick) steps) none in
     rw parts.0 (no_pick_has_cause base steps parts.1)
 
 pub held_late : (test : List Entry → Bool) (actor : ℕ) (past : List Entry) → test past ≡ true →

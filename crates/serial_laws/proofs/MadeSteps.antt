@@ -9,7 +9,7 @@ use Rattle.ssd_histories.specs.History.{is_same_tag}
 use Rattle.ssd_histories.specs.SerialCalls.{AreStepsFrom}
 use Rattle.ssd_geo.specs.declared.entry.Entry.{Entry}
 use Rattle.ssd_geo.specs.declared.tag.Tag.{Tag}
-use Rattle.serial_laws.proofs.NumberedTags.{same_tag}
+use Rattle.ssd_histories.proofs.SameTags.{same_tag}
 
 -- how many die calls failed in some steps
 abbrev pub faults_in : List CallStep → ℕ

@@ -14,9 +14,9 @@ use Rattle.ssd_geo.specs.declared.base.ChannelBase.{ChannelBase}
 use Rattle.ssd_geo.specs.declared.entry.Entry.{Entry}
 use Rattle.ssd_geo.specs.declared.kind.Kind.{Kind}
 use Rattle.ssd_geo.specs.declared.tag.Tag.{Tag}
-use Rattle.serial_laws.proofs.Lists.{same_number}
 use Rattle.serial_laws.proofs.MadeRounds.{EndsAs, IsRoundMade, faults_join, round_is_made}
 use Rattle.serial_laws.proofs.MadeSteps.{faults_in, one_step_is, steps_join}
+use Rattle.shared_lemmas.proofs.Tests.{same_number}
 
 -- the one step of an entry
 abbrev pub one_step : Tag → Kind → List Entry → List CallStep

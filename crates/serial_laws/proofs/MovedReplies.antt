@@ -15,8 +15,9 @@ use Rattle.ssd_geo.specs.declared.trace.TraceCall.{TraceCall}
 use Rattle.ssd_geo.specs.declared.trace.Verb.{Verb}
 use Rattle.serial_laws.specs.SerialReplies.{HasOneReply}
 use Rattle.serial_laws.proofs.GrownPasts.{steps_stay}
-use Rattle.serial_laws.proofs.Lists.{IsPairedAt, Pairwise, all_numbered, numbered_at, paired_at, pairs_as_many, pairs_flip, pairs_weaker}
+use Rattle.serial_laws.proofs.Lists.{IsPairedAt, Pairwise, all_numbered, paired_at, pairs_as_many, pairs_flip, pairs_weaker}
 use Rattle.serial_laws.proofs.MadeCalls.{IsGrownRun}
+use Rattle.shared_lemmas.proofs.Lists.{numbered_at}
 
 -- the steps of a drain on a channel tell of these pages there
 abbrev pub TellsPages : List (Tag × List ℕ) → Tag → ℕ → List (ℕ × RefreshReply) → ℕ × ChannelRun → Type 0

@@ -1,7 +1,7 @@
 -- Calls that are numbered by their actors: no two of them have one tag, and the entries of those before a call have smaller
 -- numbers than it.
 use Rattle.std.proofs.Common.{ℕ, ◌≡◌, ◌+◌, ◌<◌, ◌≤◌, Bool, true, false, cond, List, [], ◌∷◌, ◌++◌, refl, sym, ap, subst, inl, inr, append_assoc, append-nil, arith, eqb-true}
-use Rattle.std.proofs.lemmas.Bool.{and_parts, or_cases}
+use Rattle.std.proofs.lemmas.Bool.{and_parts, or_cases, false_from_ne_true}
 use Rattle.std.specs.Prelude.{◌==◌, ◌||◌, nat_le, not, All, count_by, sum_by}
 use Rattle.std.specs.List.{list_any}
 use Rattle.std.proofs.lemmas.Bool.Decides.{nat_tests}
@@ -12,25 +12,12 @@ use Rattle.ssd_histories.specs.History.{is_same_tag}
 use Rattle.ssd_geo.specs.declared.entry.Entry.{Entry}
 use Rattle.ssd_geo.specs.declared.tag.Tag.{Tag}
 use Rattle.ssd_geo.specs.declared.trace.TraceCall.{TraceCall}
-use Rattle.serial_laws.proofs.Lists.{not_true, same_number}
-
--- a tag is the same as itself, and tags that are the same have one actor and one number
-pub same_tag : (tag : Tag) → is_same_tag tag tag ≡ true
-same_tag tag = rw (same_number tag.actor, same_number tag.call) refl
-
-pub same_parts : (a b : Tag) → is_same_tag a b ≡ true → (a.actor ≡ b.actor) × (a.call ≡ b.call)
-same_parts a b e =
-    let parts = and_parts (a.actor == b.actor) (a.call == b.call) e in
-    (eqb-true a.actor b.actor parts.0, eqb-true a.call b.call parts.1)
-
-pub one_tag : (a b : Tag) → is_same_tag a b ≡ true → a ≡ b
-one_tag a b e =
-    let parts = same_parts a b e in
-    λ i. record { actor = parts.0 i; call = parts.1 i }
+use Rattle.shared_lemmas.proofs.Tests.{same_number}
+use Rattle.ssd_histories.proofs.SameTags.{same_parts, same_tag, one_tag}
 
 pub other_way : (a b : Tag) → is_same_tag a b ≡ false → is_same_tag b a ≡ false
 other_way a b differs =
-    not_true (is_same_tag b a) (λ same.
+    false_from_ne_true (is_same_tag b a) (λ same.
     let itself : is_same_tag a a ≡ false = subst (λ (t : Tag). is_same_tag a t ≡ false) (one_tag b a same) differs in
     absurd (grind (arith, same_tag a)))
 
@@ -94,7 +81,7 @@ known_is_below counts (call ∷ calls) entry below known =
 pub later_tag : (counts : ℕ → ℕ) (tag other : Tag) → counts tag.actor ≤ tag.call →
     IsBelow counts other → is_same_tag tag other ≡ false
 later_tag counts tag other late below =
-    not_true (is_same_tag tag other) (λ same.
+    false_from_ne_true (is_same_tag tag other) (λ same.
     let parts = same_parts tag other same in
     let moved : counts tag.actor ≡ counts other.actor = ap counts parts.0 in
     absurd (omega (arith, late, below, moved, parts.1)))

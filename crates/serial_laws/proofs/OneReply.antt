@@ -23,13 +23,16 @@ use Rattle.ssd_geo.specs.declared.trace.Verb.{Verb}
 use Rattle.serial_laws.specs.SerialReplies.{HasOneReply, SerialCallsHaveOneReply, SerialRepliesStay, SerialStopsHaveOneReply}
 use Rattle.serial_laws.proofs.DecidedReplies.{age_is_decided, read_is_decided, refresh_is_decided, trim_is_decided, write_is_decided}
 use Rattle.serial_laws.proofs.DrainedPages.{AreDrained, IsDrainedAs, are_drained, same_pages}
-use Rattle.serial_laws.proofs.Lists.{IsItemAt, IsPairedAt, Pairwise, all_at, all_both, all_numbered, get_set_there, item_at, numbered_at, paired_at, same_Some, same_number}
+use Rattle.serial_laws.proofs.Lists.{IsItemAt, IsPairedAt, Pairwise, all_both, all_numbered, get_set_there, item_at, paired_at}
 use Rattle.serial_laws.proofs.MadeCalls.{HasNoSteps, IsGrownRun, own_steps}
 use Rattle.serial_laws.proofs.MovedReplies.{TellsPages, one_reply_stays, reply_stays}
 use Rattle.serial_laws.proofs.NumberedTags.{IsBelow, counts_in, later_tag, numbered_back, numbered_front, numbers_are_below, other_way}
 use Rattle.serial_laws.proofs.OrderedCalls.{below as below_served, cut, late as late_number, numbered_served}
 use Rattle.serial_laws.proofs.ServedChains.{HoldsSoFar, all_served, none_so_far, nothing_served, serves_next}
 use Rattle.serial_laws.proofs.ServedVerbs.{IsCallMade, call_is_made, read_keeps}
+use Rattle.std.proofs.lemmas.Option.{same_Some}
+use Rattle.shared_lemmas.proofs.Lists.{all_at, numbered_at}
+use Rattle.shared_lemmas.proofs.Tests.{same_number}
 
 -- an option has just one value
 record HasOneValue (option : Option Reply) : Type 0 where

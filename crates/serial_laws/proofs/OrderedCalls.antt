@@ -3,7 +3,7 @@
 use Rattle.std.proofs.Common.{ℕ, ◌≡◌, ◌≤◌, ◌<◌, true, cond, List, [], ◌∷◌, ◌++◌, length, None, sym, ap, subst, inl, inr, append_assoc, append-nil, eq-eqb, eqb-true, arith}
 use Rattle.std.specs.Prelude.{◌==◌, All, IsTrue, nat_lt}
 use Rattle.std.specs.List.{list_all}
-use Rattle.std.proofs.lemmas.Bool.{cases_eq, ltb-false, ltb-true}
+use Rattle.std.proofs.lemmas.Bool.{cases_eq, ltb-false, ltb-true, false_from_ne_true}
 use Rattle.std.proofs.lemmas.List.Elements.{All-append, All-cons, All-head, All-tail, All-weaker}
 use Rattle.std.proofs.lemmas.List.Sums.{sum_by_push}
 use Rattle.ssd_histories.specs.CallsInOrder.{AreCallsInOrder, AreNumberedAfter, ChannelRun, IsAsAnswered, IsWhole, answered_by, is_left, is_of_call, reply_to}
@@ -15,7 +15,7 @@ use Rattle.ssd_geo.specs.declared.tag.Tag.{Tag}
 use Rattle.ssd_geo.specs.declared.trace.TraceCall.{TraceCall}
 use Rattle.serial_laws.specs.SerialOrder.{SerialCallsAreInOrder, SerialStopsAreInOrder, ServedFrontsAreInOrder}
 use Rattle.serial_laws.proofs.GrownPasts.{known_with_more}
-use Rattle.serial_laws.proofs.Lists.{all_both, not_true}
+use Rattle.serial_laws.proofs.Lists.{all_both}
 use Rattle.serial_laws.proofs.MadeCalls.{HasNoSteps}
 use Rattle.serial_laws.proofs.NumberedTags.{IsBelow, IsLate, are_late, counts_in, numbered_back, numbered_front, numbers_are_below}
 use Rattle.serial_laws.proofs.ServedChains.{HoldsSoFar, IsAnswered, all_answered, all_served, known_with_call, none_so_far, nothing_served, order_with_call, whole_with_call}
@@ -117,7 +117,7 @@ one_enough replies actors before call actor number has enough =
           omega (arith, more, low, lengths, counts, own, number)
       | inr other ↦
           let none : ◌≡◌ {A = ℕ} (cond (call.tag.actor == actor) 1 0) 0 =
-          ap {B = ℕ} (λ b. cond b 1 0) (not_true (call.tag.actor == actor) (λ e. other (eqb-true call.tag.actor actor e))) in
+          ap {B = ℕ} (λ b. cond b 1 0) (false_from_ne_true (call.tag.actor == actor) (λ e. other (eqb-true call.tag.actor actor e))) in
           omega (arith, more, none, enough)
     ]
 

@@ -14,11 +14,12 @@ use Rattle.ssd_geo.specs.declared.reply.Reply.{Reply}
 use Rattle.ssd_geo.specs.declared.tag.Tag.{Tag}
 use Rattle.ssd_geo.specs.declared.trace.TraceCall.{TraceCall}
 use Rattle.serial_laws.proofs.GrownPasts.{fall_never, known_grown, no_steps, past_is_below, steps_stay}
-use Rattle.serial_laws.proofs.Lists.{IsPairedAt, Pairwise, all_both, all_numbered, numbered_at, paired_at, pairs_all, pairs_as_many, pairs_sum}
+use Rattle.serial_laws.proofs.Lists.{IsPairedAt, Pairwise, all_both, all_numbered, paired_at, pairs_all, pairs_as_many, pairs_sum}
 use Rattle.serial_laws.proofs.MadeCalls.{HasNoSteps, IsGrownRun}
 use Rattle.serial_laws.proofs.MadeSteps.{faults_in}
 use Rattle.serial_laws.proofs.NumberedTags.{IsBelow, counts_in, later_tag, numbered_back, numbered_front, numbers_are_below, other_way}
 use Rattle.serial_laws.proofs.ServedVerbs.{IsCallMade, call_is_made}
+use Rattle.shared_lemmas.proofs.Lists.{numbered_at}
 
 -- a call that was whole stays so where another adds its entries
 pub whole_stays : (contents : List (Tag × List ℕ)) (tag : Tag) (before after : List ChannelRun) (call : TraceCall) →

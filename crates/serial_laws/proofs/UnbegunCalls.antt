@@ -3,7 +3,7 @@
 use Rattle.std.proofs.Common.{ℕ, ◌≡◌, ◌≤◌, ◌<◌, ◌/◌, ◌%◌, Bool, true, false, cond, List, [], ◌∷◌, ◌++◌, length, Option, Some, None, refl, sym, ap, subst, ◌∙◌, inl, arith}
 use Rattle.std.specs.Prelude.{◌==◌, All, IsTrue, nat_lt, not, slice_index_or}
 use Rattle.std.specs.List.{list_all}
-use Rattle.std.proofs.lemmas.Bool.{and_parts, ltb-true}
+use Rattle.std.proofs.lemmas.Bool.{and_parts, ltb-true, false_from_ne_true}
 use Rattle.std.proofs.lemmas.List.Elements.{All-head, All-nil, All-tail, All-weaker}
 use Rattle.std.proofs.lemmas.List.Folds.{list_all-append}
 use Rattle.std.proofs.lemmas.List.Sums.{list_all-from_AllPass}
@@ -25,11 +25,13 @@ use Rattle.ssd_geo.specs.declared.tag.Tag.{Tag}
 use Rattle.ssd_geo.specs.declared.trace.TraceCall.{TraceCall}
 use Rattle.ssd_geo.specs.declared.trace.Verb.{Verb}
 use Rattle.serial_laws.proofs.GrownPasts.{past_is_below}
-use Rattle.serial_laws.proofs.Lists.{all_at, all_numbered, not_true, same_number, sum_of_none}
+use Rattle.serial_laws.proofs.Lists.{all_numbered, sum_of_none}
 use Rattle.serial_laws.proofs.MadeCalls.{HasNoSteps}
 use Rattle.serial_laws.proofs.MadeSteps.{faults_in}
 use Rattle.serial_laws.proofs.MadeWrites.{one_step}
 use Rattle.serial_laws.proofs.NumberedTags.{IsBelow, later_tag}
+use Rattle.shared_lemmas.proofs.Lists.{all_at}
+use Rattle.shared_lemmas.proofs.Tests.{same_number}
 
 -- there are steps of each verb: one entry on the call's own channel, and none elsewhere
 record IsSome (form : List CallStep → Type 0) : Type 0 where
@@ -108,7 +110,7 @@ module _ (ladder : List Entry → ℕ → LadderState) (base : ChannelBase) (cha
 abbrev is_of_other : Tag → Tag × Look → Bool
 is_of_other tag pin = not (is_same_tag tag pin.0)
 
-stay_others : (tag : Tag) (at : ℕ) (pins : List (Tag × Look)) → list_all (is_of_other tag) pins ≡ true →
+pub stay_others : (tag : Tag) (at : ℕ) (pins : List (Tag × Look)) → list_all (is_of_other tag) pins ≡ true →
     list_all (is_of_other tag) (without_look pins at) ≡ true
 stay_others tag at [] others = refl
 stay_others tag at (pin ∷ pins) others =
@@ -121,13 +123,13 @@ stay_others tag at (pin ∷ pins) others =
     by_test true first rest without = rest
     by_test false first rest without = rw first without
 
-add_other : (tag named : Tag) (look : Option Look) (pins : List (Tag × Look)) → is_same_tag tag named ≡ false →
+pub add_other : (tag named : Tag) (look : Option Look) (pins : List (Tag × Look)) → is_same_tag tag named ≡ false →
     list_all (is_of_other tag) pins ≡ true → list_all (is_of_other tag) (with_look named look pins) ≡ true
 add_other tag named None pins differs others = others
 add_other tag named (Some look) pins differs others =
     list_all-append (is_of_other tag) pins ((named, look) ∷ []) ∙ rw (others, differs) refl
 
-after_other : (tag named : Tag) (at : ℕ) (kind : Kind) (pins : List (Tag × Look)) → is_same_tag tag named ≡ false →
+pub after_other : (tag named : Tag) (at : ℕ) (kind : Kind) (pins : List (Tag × Look)) → is_same_tag tag named ≡ false →
     list_all (is_of_other tag) pins ≡ true → list_all (is_of_other tag) (looks_after at named kind pins) ≡ true
 after_other tag named at (Kind.Leave left) pins differs others = stay_others tag left pins others
 after_other tag named at kind pins differs others = add_other tag named (look_made at kind) pins differs others
@@ -217,7 +219,7 @@ as_unanswered contents runs false false call is begun none = none
 pub no_reply_is : (replies : List (List Reply)) (tag : Tag) → reply_to replies tag ≡ None →
     nat_lt tag.call (answered_by replies tag.actor) ≡ false
 no_reply_is replies tag none =
-    not_true (nat_lt tag.call (answered_by replies tag.actor)) (λ e.
+    false_from_ne_true (nat_lt tag.call (answered_by replies tag.actor)) (λ e.
     let low : tag.call < length (slice_index_or replies tag.actor []) = ltb-true tag.call (answered_by replies tag.actor) e in
     let there = slice_get-get_or (slice_index_or replies tag.actor []) tag.call Reply.Ok low in
     absurd (no_Some (slice_index_or (slice_index_or replies tag.actor []) tag.call Reply.Ok) (sym there ∙ none)))

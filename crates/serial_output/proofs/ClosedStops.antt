@@ -22,11 +22,11 @@ use Rattle.run_laws.specs.SerialRuns.{state_of}
 use Rattle.run_laws.proofs.SerialHeadline.{serial_stops_hold}
 use Rattle.serial_laws.proofs.CutCalls.{cut_opens_none, of_collect, of_write}
 use Rattle.serial_laws.proofs.LeftLooks.{refresh_closes, serial_calls_leave_looks}
-use Rattle.serial_laws.proofs.Lists.{all_at}
 use Rattle.serial_laws.proofs.OrderedCalls.{serial_stops_are_in_order}
 use Rattle.serial_output.specs.StoppedLooks.{SerialStopsLeaveLooks, StoppedCallsAreInOrder, StoppedRunsHold}
 use Rattle.serial_output.proofs.CutSteps.{IsOpening, age_asks, one_opens, read_opens, refresh_opens, trim_asks}
 use Rattle.serial_output.proofs.SameStops.{CutBy, cut_there, form_cut}
+use Rattle.shared_lemmas.proofs.Lists.{all_at}
 
 -- no look is open on a channel
 abbrev IsClosed : ChannelRun → Type 0

@@ -16,9 +16,9 @@ use Rattle.ssd_geo.specs.declared.entry.Entry.{Entry}
 use Rattle.ssd_geo.specs.declared.kind.Kind.{Kind}
 use Rattle.ssd_geo.specs.declared.slot.Slot.{Slot}
 use Rattle.ssd_geo.specs.declared.tag.Tag.{Tag}
-use Rattle.serial_laws.proofs.Lists.{same_Some}
 use Rattle.serial_laws.proofs.MadeSteps.{IsGrownPast, made_steps, steps_grow}
 use Rattle.serial_output.specs.SameChoices.{ChooseAlike, ComesTo, IsSameChoice}
+use Rattle.std.proofs.lemmas.Option.{same_Some}
 
 -- a past comes to itself, and on the way to a later one it comes to those between
 pub comes_to_itself : (past : List Entry) → ComesTo past past

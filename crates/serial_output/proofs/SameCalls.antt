@@ -24,7 +24,7 @@ use Rattle.ssd_geo.specs.declared.tag.Tag.{Tag}
 use Rattle.ssd_geo.specs.declared.trace.Verb.{Verb}
 use Rattle.recovery_laws.proofs.StartPages.{starts_have_named_pages}
 use Rattle.serial_laws.specs.SerialReplies.{NamesPages}
-use Rattle.serial_laws.proofs.Lists.{IsPairedAt, Pairwise, all_at, get_set_there, paired_at, pairs_flip, pairs_join, pairs_same, pairs_set, same_Some}
+use Rattle.serial_laws.proofs.Lists.{IsPairedAt, Pairwise, get_set_there, paired_at, pairs_flip, pairs_join, pairs_same, pairs_set}
 use Rattle.serial_laws.proofs.ServedVerbs.{read_keeps}
 use Rattle.serial_output.specs.OneOutput.{RunsChooseAlike}
 use Rattle.serial_output.specs.SameChoices.{ComesTo}
@@ -32,6 +32,8 @@ use Rattle.serial_output.proofs.NextEntries.{AreAlike, AreRivals, comes_on, come
 use Rattle.serial_output.proofs.RowsApart.{RowsApart, rows_apart}
 use Rattle.serial_output.proofs.SameLooks.{reads_same, refreshes_same}
 use Rattle.serial_output.proofs.SameWrites.{collect_comes, collects_once, write_comes, writes_once}
+use Rattle.std.proofs.lemmas.Option.{same_Some}
+use Rattle.shared_lemmas.proofs.Lists.{all_at}
 
 -- a channel came to a later past of the same start
 pub record RunComesTo (run next : ChannelRun) : Type 0 where

@@ -18,12 +18,13 @@ use Rattle.ssd_geo.specs.declared.kind.Kind.{Kind}
 use Rattle.ssd_geo.specs.declared.row.Row.{Row}
 use Rattle.ssd_geo.specs.declared.slot.Slot.{Slot}
 use Rattle.ssd_geo.specs.declared.tag.Tag.{Tag}
-use Rattle.serial_laws.proofs.Lists.{same_Some, same_number}
 use Rattle.serial_laws.proofs.MadeRounds.{copies_are_made}
 use Rattle.serial_output.specs.SameChoices.{ComesTo}
 use Rattle.serial_output.proofs.NextEntries.{AreAlike, AreRivals, IsSameFailure, comes_before, comes_on, first_comes, none_weak_or_failed, rivals, same_failed, same_failure, steps_are_one, steps_come}
 use Rattle.serial_output.proofs.RowsApart.{RowsApart}
 use Rattle.serial_output.proofs.SameLooks.{copies_same, copy_is_list}
+use Rattle.std.proofs.lemmas.Option.{same_Some}
+use Rattle.shared_lemmas.proofs.Tests.{same_number}
 
 -- a look of the victim's first live page
 record IsFirstLook (base : ChannelBase) (past : List Entry) (kind : Kind) : Type 0 where

@@ -18,7 +18,7 @@ use Rattle.ssd_geo.specs.declared.entry.Entry.{Entry}
 use Rattle.ssd_geo.specs.declared.reply.Reply.{Reply}
 use Rattle.ssd_geo.specs.declared.tag.Tag.{Tag}
 use Rattle.ssd_geo.specs.declared.trace.Verb.{Verb}
-use Rattle.serial_laws.proofs.Lists.{all_at, get_set_there, pairs_same}
+use Rattle.serial_laws.proofs.Lists.{get_set_there, pairs_same}
 use Rattle.serial_laws.proofs.ServedVerbs.{read_keeps}
 use Rattle.serial_output.specs.OneEnding.{FoundRoom}
 use Rattle.serial_output.specs.OneOutput.{RunsChooseAlike}
@@ -26,6 +26,7 @@ use Rattle.serial_output.proofs.CutForms.{collect_cut, write_cut}
 use Rattle.serial_output.proofs.CutSteps.{IsOpening, IsUnopened, age_asks, one_opens, opening_cut, opening_has_room, read_opens, refresh_opens, trim_asks}
 use Rattle.serial_output.proofs.SameCalls.{AreMet, ChannelsCome, DrainForm, IsOnTheWay, IsOnce, IsSameOn, IsSameRefresh, RunComesTo, apart_too, are_alike, are_apart, channels_come_on, cons_first, cons_rest, drain_form, drained_comes, found_none, meet, nothing_or_hint, on_channel_comes, on_channel_once, on_the_way, run_itself, same_taken, stopped, took, took_all}
 use Rattle.serial_output.proofs.SameCuts.{cut_collects_once, cut_or_collected, cut_or_written, cut_writes_once}
+use Rattle.shared_lemmas.proofs.Lists.{all_at}
 
 -- a cut by its own length
 abbrev pub CutBy : (ChannelRun → List Entry → List Entry → Type 0) → ChannelRun → List Entry → List Entry → Type 0

@@ -8,7 +8,7 @@ use Rattle.std.proofs.lemmas.Bool.{cases_eq, false≢true, ltb-false}
 use Rattle.std.proofs.lemmas.List.{ext_get_or}
 use Rattle.std.proofs.lemmas.List.Elements.{All-cons, All-head, All-nil, All-tail, All-weaker}
 use Rattle.std.proofs.lemmas.List.Sums.{sum_by-append, sum_by-cons}
-use Rattle.std.proofs.lemmas.Option.{slice_get-get_or, slice_get_past}
+use Rattle.std.proofs.lemmas.Option.{slice_get-get_or, slice_get_past, same_Some}
 use Rattle.ssd_geo.specs.Coding.{coding_of}
 use Rattle.ssd_formats.specs.ImageHead.{Head}
 use Rattle.ssd_formats.specs.RunText.{run_text}
@@ -32,11 +32,11 @@ use Rattle.run_laws.specs.Runs.{FaultCounts, Run, channels_of, data_in, runs_wit
 use Rattle.run_laws.specs.SerialRuns.{state_of}
 use Rattle.run_laws.proofs.ChangedRuns.{run_parts}
 use Rattle.run_laws.proofs.CountedFaults.{uncounted_faults_are_none}
-use Rattle.serial_laws.proofs.Lists.{all_at, numbered_at, same_Some}
 use Rattle.serial_laws.proofs.NumberedTags.{counts_in}
 use Rattle.serial_output.specs.OneOutput.{AreOfOneInput, AreOneRun, ChoicesDecideOutput, HasNoFault, HaveOneOutput, InputsDecideOutput, NoCountRose, RunsChooseAlike, ViewsDecideOutput}
 use Rattle.serial_output.proofs.SameRuns.{choices_decide_runs}
 use Rattle.serial_output.proofs.ToldViews.{views_choose_alike}
+use Rattle.shared_lemmas.proofs.Lists.{all_at, numbered_at}
 
 -- the pasts and the starts of channels
 pasts_of_channels : (starts : List Start) (pasts : List (List Entry)) → length pasts ≡ length starts →

@@ -17,8 +17,9 @@ use Rattle.ssd_geo.specs.declared.entry.Entry.{Entry}
 use Rattle.ssd_geo.specs.declared.kind.Kind.{Kind}
 use Rattle.ssd_geo.specs.declared.policy_view.PolicyView.{PolicyView}
 use Rattle.ssd_geo.specs.declared.shape.Shape.{Shape}
-use Rattle.serial_laws.proofs.Lists.{same_Some, same_number}
 use Rattle.serial_output.specs.SameChoices.{ChooseAlike, ComesTo, picked_by}
+use Rattle.std.proofs.lemmas.Option.{same_Some}
+use Rattle.shared_lemmas.proofs.Tests.{same_number}
 
 -- a die whose call failed is one of the channel
 failed_in_range : (shape : Shape) (kind : Kind) (die : ℕ) → is_in_range shape kind ≡ true → failed_die kind ≡ Some die →

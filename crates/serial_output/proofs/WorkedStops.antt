@@ -4,7 +4,7 @@ use Rattle.std.specs.Prelude.{All, count_by, nat_lt, slice_get, unwrap_or}
 use Rattle.std.specs.List.{enumerate_from}
 use Rattle.std.specs.Option.{ForSome}
 use Rattle.std.proofs.lemmas.List.Elements.{All-cons, All-from_recursion, All-head, All-nil, All-tail}
-use Rattle.std.proofs.lemmas.Option.{none-some}
+use Rattle.std.proofs.lemmas.Option.{none-some, same_Some}
 use Rattle.ssd_formats.specs.ImageHead.{Head}
 use Rattle.ssd_geo.specs.Coding.{coding_of}
 use Rattle.ssd_geo.specs.Faults.{RoseBy}
@@ -34,7 +34,6 @@ use Rattle.run_laws.specs.Runs.{channels_of}
 use Rattle.run_laws.specs.SerialRuns.{ChannelsHold, HasCalls, HasData}
 use Rattle.run_laws.specs.Serials.{HasSmallSerials}
 use Rattle.run_laws.specs.SpelledPasts.{IsSmallVerb}
-use Rattle.serial_laws.proofs.Lists.{same_Some}
 use Rattle.serial_output.specs.OneEnding.{EndedAs, FoundRoom}
 use Rattle.serial_output.specs.OneOutput.{HasNoFault, RunsChooseAlike}
 use Rattle.serial_output.specs.SameChoices.{ChooseAlike, IsSameChoice, picked_by}

@@ -3,7 +3,7 @@
 use Rattle.std.proofs.Common.{◌≡◌, ◌≢◌, ℕ, ◌+◌, ◌<◌, ◌==◌, cond, Bool, true, false, List, [], ◌∷◌, ◌++◌, length, refl, sym, ap, subst, ◌∙◌, zero-add, Option, Some, None, ℤ, arith, All}
 use Rattle.std.specs.Prelude.{◌&&◌, ◌||◌, IsSome, IsSomeAnd, count_by, is_some}
 use Rattle.std.proofs.lemmas.Bool.Decides.{nat_tests}
-use Rattle.std.proofs.lemmas.Bool.{and_parts}
+use Rattle.std.proofs.lemmas.Bool.{and_parts, false_from_ne_true}
 use Rattle.std.proofs.lemmas.List.Elements.{All-nil, All-cons, All-head, All-tail, All-append}
 use Rattle.std.proofs.lemmas.List.Sums.{sum_by-cons}
 use Rattle.chan_calls.specs.Caller.{own_look}
@@ -34,12 +34,8 @@ same_actor a b same = equal a.actor b.actor (and_parts (a.actor == b.actor) (a.c
     equal : (m n : ℕ) → (m == n) ≡ true → m ≡ n
     equal m n e = grind (arith, nat_tests)
 
-by_case : (b : Bool) → (b ≡ true → ⊥) → b ≡ false
-by_case true never = absurd (never refl)
-by_case false never = refl
-
 other_call : (a b : Tag) → b.actor ≢ a.actor → is_same_tag a b ≡ false
-other_call a b other = by_case (is_same_tag a b) (λ same. other (sym (same_actor a b same)))
+other_call a b other = false_from_ne_true (is_same_tag a b) (λ same. other (sym (same_actor a b same)))
 
 -- a call's look among some at a position
 abbrev own_in : Tag → List (Tag × Look) → ℕ → Option Look
@@ -256,7 +252,7 @@ module _ (start : Start) (contents : List (Tag × List ℕ)) (past : List Entry)
     (lawful : IsLawfulEntry (ladder_of (coding_of start.base) start contents past) start.base past entry)
     (other : entry.tag.actor ≢ tag.actor) where
   not_of_other : (at : ℕ) → IsSome (own_look tag past at) → is_step_of at entry.kind ≡ false
-  not_of_other at some = by_case (is_step_of at entry.kind) (λ is.
+  not_of_other at some = false_from_ne_true (is_step_of at entry.kind) (λ is.
       other (two_calls entry.tag tag (look_at (open_looks past) at)
       (by_its_call (ladder_of (coding_of start.base) start contents past) start.base past entry.tag at entry.kind
       lawful.meets is) some))

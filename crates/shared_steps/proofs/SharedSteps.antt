@@ -29,20 +29,18 @@ use Rattle.shared_steps.specs.Tracing.{IsTraced, TracedState, stands_just_for, v
 use Rattle.shared_steps.proofs.AddedEntries.{AddsOne}
 use Rattle.shared_steps.proofs.CarriedSteps.{ReturnsTo, StepsFor, still_come, still_condemn, still_leave, still_move, still_own, still_sense}
 use Rattle.shared_steps.proofs.OtherEntries.{OwnStays, own_stays}
+use Rattle.std.proofs.lemmas.Bool.{eqb-false}
 
 -- a list without an entry of an actor has others' entries alone
 one_less : (b : Bool) (entry : Entry) (rest : List Entry) → cond b (entry ∷ rest) rest ≡ [] → (b ≡ false) × (rest ≡ [])
 one_less true entry rest e = absurd (cc)
 one_less false entry rest e = (refl, e)
 
-unlike : (m n : ℕ) → (m == n) ≡ false → m ≢ n
-unlike m n e = λ same. grind (arith, nat_tests)
-
 all_other : (number : ℕ) (list : List Entry) → entries_by number list ≡ [] → All (λ entry. entry.tag.actor ≢ number) list
 all_other number [] none = All-nil (λ (entry : Entry). entry.tag.actor ≢ number)
 all_other number (entry ∷ list) none =
     let parts = one_less (entry.tag.actor == number) entry (entries_by number list) none in
-    All-cons (λ (e : Entry). e.tag.actor ≢ number) entry list (unlike entry.tag.actor number parts.0) (all_other number list
+    All-cons (λ (e : Entry). e.tag.actor ≢ number) entry list (eqb-false entry.tag.actor number parts.0) (all_other number list
     parts.1)
 
 -- a fact of each entry is one of each in the reverse

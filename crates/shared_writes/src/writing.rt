@@ -2,62 +2,17 @@
 ghost use Rattle.std.specs.Prelude.{◌≡◌, ◌<◌, length};
 ghost use Rattle.chan_calls.specs.Caller.{SameCaller, Serves, TakesData};
 ghost use Rattle.chan_calls.specs.Calls.{WritesData};
-ghost use Rattle.collector.specs.Writes.{MayWrite, TurnsWrite, WritesRow, reply_of_round};
+ghost use Rattle.collector.specs.Writes.{MayWrite, WritesRow};
 ghost use Rattle.shared_steps.specs.Sharing.{view_of_shared};
 ghost use Rattle.shared_steps.specs.Tracing.{stands_just_for};
 
-use chan_calls::{Gate, Steps, Worker};
-use chan_state::WriteAnswer;
-use collector::{RoundReply, WriteReply, round};
+use chan_calls::{Gate, Worker};
+use collector::{WriteReply, write_or_round};
 use onfi_cmd::Die;
 use shared_steps::{Contents, Shared};
 use ssd_geo::{StepStop, Tag};
 use std::sync::Wait;
 use victim::Policy;
-
-// The reply of a write that a round ends.
-fn reply_of_round(ended: RoundReply) -> Option<WriteReply>
-    ensures { result ≡ reply_of_round ended }
-{
-    match ended {
-        RoundReply::DieFault { die } => Some(WriteReply::DieFault { die }),
-        RoundReply::Erased { .. } | RoundReply::Retired { .. } | RoundReply::Left => None,
-    }
-}
-
-// Writes the data once, and makes a round where that needs room. None says that the write goes on.
-fn turn<S: Steps, G: Gate>(
-    worker: &mut Worker,
-    steps: &mut S,
-    gate: &G,
-    tag: Tag,
-    row: u32,
-    bytes: &[u8],
-) -> Result<Option<WriteReply>, StepStop>
-    requires actor { Serves (S.view steps.old) tag.actor }
-    requires row { row < worker.old.shape.rows }
-    requires bytes { length bytes.now ≡ worker.old.shape.bytes }
-    requires takes { TakesData (S.view steps.old) tag bytes.now }
-    requires may { MayWrite worker.old (S.view steps.old) (S.stands steps.old) tag bytes.now }
-    ensures worker { worker.new ≡ record worker.old { data_bytes = worker.new.data_bytes } }
-    ensures caller { SameCaller (S.view steps.old) (S.view steps.new) }
-    ensures goes_on { WritesData worker.old
-        (S.view steps.old) (S.view steps.new) (S.stands steps.old) (S.stands steps.new) tag bytes.now }
-    ensures made { TurnsWrite worker.old (S.view steps.old) (S.stands steps.old)
-        tag row bytes.now (S.view steps.new).seen result }
-{
-    match worker.write_once(steps, gate, tag, row, bytes)? {
-        WriteAnswer::NeedRoom => {
-            let ended = round(worker, steps, gate, tag)?;
-            Ok(reply_of_round(ended))
-        }
-        WriteAnswer::Failed { .. } => Ok(None),
-        WriteAnswer::Written { .. } => Ok(Some(WriteReply::Written)),
-        WriteAnswer::DieFault { die } => Ok(Some(WriteReply::DieFault { die })),
-        WriteAnswer::ReadOnly => Ok(Some(WriteReply::ReadOnly)),
-        WriteAnswer::Full => Ok(Some(WriteReply::Full)),
-    }
-}
 
 /// Writes data to a row. After a program that answered FAIL it tries again, and where it needs room it
 /// makes a round first; it goes on for as long as the other callers take the room. Where the history has
@@ -91,7 +46,7 @@ pub fn write_shared<R: Wait, D: Die, P: Policy, J: Contents, G: Gate>(
         tag row bytes.now (view_of_shared steps.new.turns.now steps.new.pass J.contents).seen result }
 {
     'turns: for _ in rt.forever() {
-        match turn(worker, steps, gate, tag, row, bytes)? {
+        match write_or_round(worker, steps, gate, tag, row, bytes)? {
             Some(reply) => return Ok(reply),
             None => {}
         }

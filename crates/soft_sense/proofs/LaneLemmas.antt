@@ -10,11 +10,7 @@ use Rattle.std.specs.Simd.Lanes.{sel_l, top, zip2}
 use Rattle.ssd_geo.specs.Bits.{bit_of}
 use Rattle.ssd_geo.specs.Senses.{hard_value, soft_value, zeros_at}
 use Rattle.soft_sense.proofs.ValueLemmas.{zeros_of_five}
-
--- eight items that are equal one by one
-pub eight_equal : {X : Type 0} {a b c d e f g h a' b' c' d' e' f' g' h' : X} → a ≡ a' → b ≡ b' → c ≡ c' → d ≡ d' → e ≡ e' → f ≡ f' → g ≡ g' → h ≡ h' →
-    a ∷ b ∷ c ∷ d ∷ e ∷ f ∷ g ∷ h ∷ [] ≡ a' ∷ b' ∷ c' ∷ d' ∷ e' ∷ f' ∷ g' ∷ h' ∷ []
-eight_equal p q r s t u v w = λ i. p i ∷ q i ∷ r i ∷ s i ∷ t i ∷ u i ∷ v i ∷ w i ∷ []
+use Rattle.shared_lemmas.proofs.Lists.{eight_equal}
 
 -- the test of a bit alone
 is_clear : (byte k : ℕ) → eqb (bit_and byte (2 ^ k)) 0 ≡ not (eqb (bit_at byte k) 1)

@@ -9,6 +9,7 @@ use Rattle.std.proofs.lemmas.Nat.Bits.{bit_at-lt, same_from_bits_below}
 use Rattle.ssd_bits.specs.Runs.{AddsRun, is_one}
 use Rattle.ssd_bits.proofs.Words.{is_one-xor}
 use Rattle.ssd_geo.specs.Bits.{bit_of, bit_sum, bytes_sum}
+use Rattle.ssd_geo.proofs.WordSums.{length-bytes_sum}
 
 -- two digits that are 1 together are equal
 same-digit : (a b : ℕ) → a < 2 → b < 2 → eqb a 1 ≡ eqb b 1 → a ≡ b
@@ -33,11 +34,6 @@ same-bytes xs ys long small_x small_y same =
     let here : bit_of xs (8 * j + k) ≡ bit_of ys (8 * j + k) = same (8 * j + k) (omega arith) in
     same-digit (bit_at (get_or xs j 0) k) (bit_at (get_or ys j 0) k) (bit_at-lt (get_or xs j 0) k) (bit_at-lt (get_or ys j 0) k) (rw (q, m) at here)))
 
-pub length-bytes_sum : (xs ys : List ℕ) → length xs ≡ length ys → length (bytes_sum xs ys) ≡ length xs
-length-bytes_sum [] ys h = refl
-length-bytes_sum (x ∷ xs) [] h = absurd (omega arith)
-length-bytes_sum (x ∷ xs) (y ∷ ys) h = ap suc (length-bytes_sum xs ys (omega arith))
-
 pub get_or-bytes_sum : (xs ys : List ℕ) (i : ℕ) → length xs ≡ length ys → get_or (bytes_sum xs ys) i 0 ≡ bit_xor (get_or xs i 0) (get_or ys i 0)
 get_or-bytes_sum [] [] i h = refl
 get_or-bytes_sum [] (y ∷ ys) i h = absurd (omega arith)
@@ -55,7 +51,7 @@ pub bytes_sum-from_run : (old new src : List ℕ) (n : ℕ) → length new ≡ l
     → ((i : ℕ) → get_or old i 0 < 256) → ((i : ℕ) → get_or new i 0 < 256) → ((i : ℕ) → get_or src i 0 < 256)
     → AddsRun old new 0 src 0 n → new ≡ bytes_sum old src
 bytes_sum-from_run old new src n long same whole small_old small_new small_src adds =
-    same-bytes new (bytes_sum old src) (omega (arith, length-bytes_sum old src same)) small_new
+    same-bytes new (bytes_sum old src) (omega (arith, length-bytes_sum old src (sym same))) small_new
     (λ i. subst (λ (x : ℕ). x < 256) (sym (get_or-bytes_sum old src i same)) (xor_of_8 (get_or old i 0) (get_or src i 0) (small_old i) (small_src i)))
     (λ i h.
     let none : 0 + i ≡ i = omega arith in

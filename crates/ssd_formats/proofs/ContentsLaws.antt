@@ -18,11 +18,8 @@ use Rattle.ssd_geo.specs.declared.row.Row.TheVariants.{Empty, Lost, Page}
 use Rattle.ssd_geo.specs.declared.superblock.SbState.{SbState}
 use Rattle.ssd_geo.specs.declared.superblock.SbState.TheVariants.{Free, Frontier, Sealed, Bad, Victim}
 use Rattle.ssd_formats.proofs.FieldLaws.{goes_on, passes, field_again, number_again_8, number_again_16, number_again_32, number_again_64}
-use Rattle.ssd_formats.proofs.HeadLaws.{read_at, same_reading, both_of, below_is, within_is, levels_again, head_is_read}
-
--- a test of equality that passed
-pub equal_is : (m n : ℕ) → (m == n) ≡ true → m ≡ n
-equal_is m n e = grind (arith, common_steps)
+use Rattle.ssd_formats.proofs.HeadLaws.{read_at, same_reading, below_is, within_is, levels_again, head_is_read}
+use Rattle.std.proofs.lemmas.Bool.{and_parts, eqb-true}
 
 no_length : (n : ℕ) → (suc n == 0) ≡ true → ⊥
 no_length n e = grind (arith, common_steps)
@@ -53,8 +50,8 @@ programmed_again sizes state sb used [] before place more small e =
 programmed_again sizes state sb used (of ∷ pages) before place more small e =
     let n : ℕ = length of in
     let tail : List ℕ = counts_bytes pages in
-    let parts = both_of (is_programmed_count sizes state sb used (length before) n && is_within 0 sizes.pages n) (are_programmed_counts sizes state sb used (before ++ n ∷ []) (map length pages)) e in
-    let here = both_of (is_programmed_count sizes state sb used (length before) n) (is_within 0 sizes.pages n) parts.0 in
+    let parts = and_parts (is_programmed_count sizes state sb used (length before) n && is_within 0 sizes.pages n) (are_programmed_counts sizes state sb used (before ++ n ∷ []) (map length pages)) e in
+    let here = and_parts (is_programmed_count sizes state sb used (length before) n) (is_within 0 sizes.pages n) parts.0 in
     let fits : n < 2 ^ 16 = omega (arith, within_is 0 sizes.pages n here.1, small) in
     goes_on _ _ _ (number_again_16 (place, faults.count) (is_programmed_count sizes state sb used (length before)) n place (tail ++ more) fits here.0)
     ∙ (programmed_again sizes state sb used pages (before ++ n ∷ []) (place + 2) more small parts.1
@@ -64,8 +61,8 @@ programmed_again sizes state sb used (of ∷ pages) before place more small e =
 page_again : (cells : ℕ) (page : List ℤ) (place : ℕ) (more : List ℕ) → is_page cells page ≡ true →
     level_fields cells [] (record { place = place; bytes = flat_map bytes_of_signed page ++ more }) ≡ Ok (page, record { place = place + length (flat_map bytes_of_signed page); bytes = more })
 page_again cells page place more e =
-    let both = both_of (length page == cells) (list_all is_level page) e in
-    ap (λ n. level_fields n [] (record { place = place; bytes = flat_map bytes_of_signed page ++ more })) (sym (equal_is (length page) cells both.0))
+    let both = and_parts (length page == cells) (list_all is_level page) e in
+    ap (λ n. level_fields n [] (record { place = place; bytes = flat_map bytes_of_signed page ++ more })) (sym (eqb-true (length page) cells both.0))
     ∙ levels_again page [] place more both.1
 
 pages_again : (cells : ℕ) (pages before : List (List ℤ)) (place : ℕ) (more : List ℕ) → are_pages cells pages ≡ true →
@@ -74,7 +71,7 @@ unfolding page_fields
 pages_again cells [] before place more e =
     same_reading before (before ++ []) place (place + 0) more (sym (append-nil before)) (omega arith)
 pages_again cells (page ∷ pages) before place more e =
-    let both = both_of (is_page cells page) (are_pages cells pages) e in
+    let both = and_parts (is_page cells page) (are_pages cells pages) e in
     let first : List ℕ = flat_map bytes_of_signed page in
     let tail : List ℕ = pages_bytes pages in
     ap (λ bytes. page_fields cells (suc (length pages)) before (record { place = place; bytes = bytes })) (append_assoc first tail more)
@@ -89,7 +86,7 @@ unfolding die_fields
 dies_again cells [] before place more e =
     same_reading before (before ++ []) place (place + 0) more (sym (append-nil before)) (omega arith)
 dies_again cells (pages ∷ dies) before place more e =
-    let both = both_of (are_pages cells pages) (list_all (are_pages cells) dies) e in
+    let both = and_parts (are_pages cells pages) (list_all (are_pages cells) dies) e in
     let first : List ℕ = pages_bytes pages in
     let tail : List ℕ = flat_map pages_bytes dies in
     ap (λ bytes. die_fields cells (length pages ∷ map length dies) before (record { place = place; bytes = bytes })) (append_assoc first tail more)
@@ -112,10 +109,10 @@ sum_again head block word place more true o e =
     let is_checked : List ℕ → Bool = is_page_word head in
     let tested : Bool = length word == word_bytes_of head.sizes && is_checked word in
     let told : tested ≡ true = ap (λ c. if c then tested else (length word == 0)) (sym o) ∙ e in
-    let both = both_of (length word == word_bytes_of head.sizes) (is_checked word) told in
+    let both = and_parts (length word == word_bytes_of head.sizes) (is_checked word) told in
     let read : Reading (List ℕ) = field_or (place, faults.sum) (word_bytes_of head.sizes) (passing is_checked) start in
     ap (λ c. if c then read else Ok ([], start)) o
-    ∙ (ap (λ n. field_or (place, faults.sum) n (passing is_checked) start) (sym (equal_is (length word) (word_bytes_of head.sizes) both.0))
+    ∙ (ap (λ n. field_or (place, faults.sum) n (passing is_checked) start) (sym (eqb-true (length word) (word_bytes_of head.sizes) both.0))
     ∙ field_again (place, faults.sum) (passing is_checked) word place word more (passes is_checked word word refl both.1))
 sum_again head block word place more false o e =
     let start : Rest = record { place = place; bytes = word ++ more } in
@@ -140,13 +137,13 @@ block_again head channel before saved place more small e =
     let t6 : Bool = are_programmed_counts sizes block.state (length before) block.used [] (map length saved.pages) in
     let t7 : Bool = list_all (are_pages (page_cells_of sizes)) saved.pages in
     let t8 : Bool = is_sum head block saved.sum in
-    let e8 = both_of (t1 && t2 && t3 && t4 && t5 && t6 && t7) t8 e in
-    let e7 = both_of (t1 && t2 && t3 && t4 && t5 && t6) t7 e8.0 in
-    let e6 = both_of (t1 && t2 && t3 && t4 && t5) t6 e7.0 in
-    let e5 = both_of (t1 && t2 && t3 && t4) t5 e6.0 in
-    let e4 = both_of (t1 && t2 && t3) t4 e5.0 in
-    let e3 = both_of (t1 && t2) t3 e4.0 in
-    let e2 = both_of t1 t2 e3.0 in
+    let e8 = and_parts (t1 && t2 && t3 && t4 && t5 && t6 && t7) t8 e in
+    let e7 = and_parts (t1 && t2 && t3 && t4 && t5 && t6) t7 e8.0 in
+    let e6 = and_parts (t1 && t2 && t3 && t4 && t5) t6 e7.0 in
+    let e5 = and_parts (t1 && t2 && t3 && t4) t5 e6.0 in
+    let e4 = and_parts (t1 && t2 && t3) t4 e5.0 in
+    let e3 = and_parts (t1 && t2) t3 e4.0 in
+    let e2 = and_parts t1 t2 e3.0 in
     let cn : List ℕ = counts_bytes saved.pages in
     let pg : List ℕ = flat_map pages_bytes saved.pages in
     let sm : List ℕ = saved.sum in
@@ -159,7 +156,7 @@ block_again head channel before saved place more small e =
     let grouped : (cn ++ pg ++ sm) ++ more ≡ b3 = append_assoc (cn ++ pg) sm more ∙ append_assoc cn pg (sm ++ more) in
     let few_erases : block.erases < 2 ^ 32 = omega (arith, within_is 0 (2 ^ 31) block.erases e2.1) in
     let few_used : block.used < 2 ^ 32 = below_is (2 ^ 32) block.used e3.1 in
-    let dies : length saved.pages ≡ sizes.dies = equal_is (length saved.pages) sizes.dies e5.1 in
+    let dies : length saved.pages ≡ sizes.dies = eqb-true (length saved.pages) sizes.dies e5.1 in
     let p9 : ℕ = place + 1 + 4 + 4 in
     let from_counts : Rest = record { place = p9; bytes = b3 } in
     let counts = ap (λ n. programmed_fields sizes block.state (length before) block.used n [] from_counts) (sym dies)
@@ -181,7 +178,7 @@ unfolding blocks_fields
 blocks_again head channel [] before place more small e =
     same_reading before (before ++ []) place (place + 0) more (sym (append-nil before)) (omega arith)
 blocks_again head channel (saved ∷ blocks) before place more small e =
-    let both = both_of (is_saved_block head channel before saved) (are_saved_blocks head channel (before ++ saved ∷ []) blocks) e in
+    let both = and_parts (is_saved_block head channel before saved) (are_saved_blocks head channel (before ++ saved ∷ []) blocks) e in
     let first : List ℕ = block_bytes saved in
     let tail : List ℕ = flat_map block_bytes blocks in
     ap (λ bytes. blocks_fields head channel (suc (length blocks)) before (record { place = place; bytes = bytes })) (append_assoc first tail more)
@@ -203,9 +200,9 @@ row_again sizes blocks before (Page slot serial) place more small e =
     let t2 : Bool = is_below (2 ^ 32) slot.index in
     let t3 : Bool = is_below (2 ^ 64) serial in
     let t4 : Bool = may_name blocks before slot in
-    let e4 = both_of (t1 && t2 && t3) t4 e in
-    let e3 = both_of (t1 && t2) t3 e4.0 in
-    let e2 = both_of t1 t2 e3.0 in
+    let e4 = and_parts (t1 && t2 && t3) t4 e in
+    let e3 = and_parts (t1 && t2) t3 e4.0 in
+    let e2 = and_parts t1 t2 e3.0 in
     let b3 : List ℕ = to_le_bytes w64 serial ++ more in
     let b2 : List ℕ = to_le_bytes w32 slot.index ++ b3 in
     let b1 : List ℕ = to_le_bytes w16 slot.sb ++ b2 in
@@ -223,7 +220,7 @@ unfolding row_fields
 rows_again sizes blocks [] before place more small e =
     same_reading before (before ++ []) place (place + 0) more (sym (append-nil before)) (omega arith)
 rows_again sizes blocks (of ∷ rows) before place more small e =
-    let both = both_of (is_saved_row sizes blocks before of) (are_saved_rows sizes blocks (before ++ of ∷ []) rows) e in
+    let both = and_parts (is_saved_row sizes blocks before of) (are_saved_rows sizes blocks (before ++ of ∷ []) rows) e in
     let first : List ℕ = row_bytes of in
     let tail : List ℕ = flat_map row_bytes rows in
     ap (λ bytes. row_fields sizes blocks (suc (length rows)) before (record { place = place; bytes = bytes })) (append_assoc first tail more)

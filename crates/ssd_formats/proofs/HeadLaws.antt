@@ -15,18 +15,13 @@ use Rattle.ssd_formats.specs.InputFaults.{magic, range}
 use Rattle.ssd_formats.specs.ImageHead.{Head, Fixed, beginning, first_beginning, is_beginning, words_field, first_sizes, with_columns, fixed_fields, from_beginning, is_programmed_level, IsHead, read_head, head_bytes, first_head_bytes, later_bytes, weak_record, weak_records, weak_bytes, comes_after, is_weak_before, are_weak_records, is_weak_record, bad_record, bad_records, bad_bytes, is_bad_record, are_bad_records, is_bad_before, rows_fit, is_short, signed_numbers, matrix_field, matrix_fault, unless_fault}
 use Rattle.ssd_geo.specs.declared.weak.Weak.{Weak}
 use Rattle.ssd_formats.proofs.FieldLaws.{goes_on, bytes_again, field_again, number_again_64, number_again_8, number_again_16, number_again_32, signed_numbers_again, signed_again}
+use Rattle.std.proofs.lemmas.Bool.{and_parts}
 
 pub below_is : (bound n : ℕ) → is_below bound n ≡ true → n < bound
 below_is bound n e = grind (arith, common_steps)
 
 pub within_is : (low high n : ℕ) → is_within low high n ≡ true → n ≤ high
 within_is low high n e = grind (arith, common_steps)
-
-pub both_of : (a b : Bool) → (a && b) ≡ true → (a ≡ true) × (b ≡ true)
-both_of true true e = (refl, refl)
-both_of true false e = (refl, e)
-both_of false true e = (e, refl)
-both_of false false e = (e, e)
 
 pub short_fits : (n : ℤ) → is_short n ≡ true → FitsSigned w16 n
 short_fits (pos n) e = record { sfits = grind (arith, common_steps, ints) }
@@ -55,7 +50,7 @@ unfolding level_fields
 levels_again [] before place more e =
     same_reading before (before ++ []) place (place + 0) more (sym (append-nil before)) (omega arith)
 levels_again (level ∷ levels) before place more e =
-    let both : (is_level level ≡ true) × (list_all is_level levels ≡ true) = both_of (is_level level) (list_all is_level levels) e in
+    let both : (is_level level ≡ true) × (list_all is_level levels ≡ true) = and_parts (is_level level) (list_all is_level levels) e in
     goes_on _ _ _ (signed_again is_level level place (flat_map bytes_of_signed levels ++ more) (level_fits level both.0) both.0)
     ∙ (levels_again levels (before ++ level ∷ []) (place + 2) more both.1
     ∙ same_reading ((before ++ level ∷ []) ++ levels) (before ++ level ∷ levels) (place + 2 + length (flat_map bytes_of_signed levels)) (place + suc (suc (length (flat_map bytes_of_signed levels)))) more
@@ -64,7 +59,7 @@ levels_again (level ∷ levels) before place more e =
 signed_list_again : (ns : List ℤ) → list_all is_short ns ≡ true → signed_numbers (flat_map bytes_of_signed ns) ≡ ns
 signed_list_again [] e = refl
 signed_list_again (n ∷ ns) e =
-    let both : (is_short n ≡ true) × (list_all is_short ns ≡ true) = both_of (is_short n) (list_all is_short ns) e in
+    let both : (is_short n ≡ true) × (list_all is_short ns ≡ true) = and_parts (is_short n) (list_all is_short ns) e in
     let first = signed_numbers_again n (short_fits n both.0) in
     rw (first, signed_list_again ns both.1) refl
 
@@ -98,9 +93,9 @@ weak_again sizes before weak place more small e from =
     let tc : Bool = is_below sizes.channels weak.channel in
     let td : Bool = is_below sizes.dies weak.die in
     let ts : Bool = is_below sizes.superblocks weak.sb in
-    let parts = both_of (tc && td && ts) (comes_after is_weak_before before weak) e in
-    let upto = both_of (tc && td) ts parts.0 in
-    let first = both_of tc td upto.0 in
+    let parts = and_parts (tc && td && ts) (comes_after is_weak_before before weak) e in
+    let upto = and_parts (tc && td) ts parts.0 in
+    let first = and_parts tc td upto.0 in
     let fc : weak.channel < 2 ^ 8 = omega (arith, below_is sizes.channels weak.channel first.0, small.channels) in
     let fd : weak.die < 2 ^ 8 = omega (arith, below_is sizes.dies weak.die first.1, small.dies) in
     let fs : weak.sb < 2 ^ 16 = omega (arith, below_is sizes.superblocks weak.sb upto.1, small.superblocks) in
@@ -118,8 +113,8 @@ unfolding weak_records
 weaks_again sizes [] before place more small e from =
     same_reading before (before ++ []) place (place + 0) more (sym (append-nil before)) (omega arith)
 weaks_again sizes (w ∷ weak) before place more small e from =
-    let here = both_of (is_weak_record sizes before w) (are_weak_records sizes (before ++ w ∷ []) weak) e in
-    let fits = both_of (is_below (2 ^ 32) w.from) (list_all (λ (v : Weak). is_below (2 ^ 32) v.from) weak) from in
+    let here = and_parts (is_weak_record sizes before w) (are_weak_records sizes (before ++ w ∷ []) weak) e in
+    let fits = and_parts (is_below (2 ^ 32) w.from) (list_all (λ (v : Weak). is_below (2 ^ 32) v.from) weak) from in
     let tail : List ℕ = flat_map weak_bytes weak in
     goes_on _ _ _ (weak_again sizes before w place (tail ++ more) small here.0 fits.0)
     ∙ (weaks_again sizes weak (before ++ w ∷ []) (place + 1 + 1 + 2 + 4) more small here.1 fits.1
@@ -135,9 +130,9 @@ bad_again sizes before bad place more small e =
     let b1 : List ℕ = to_le_bytes w8 0 ++ b2 in
     let tc : Bool = is_below sizes.channels bad.0 in
     let ts : Bool = is_below sizes.superblocks bad.1 in
-    let parts = both_of (tc && ts && comes_after is_bad_before before bad) (rows_fit sizes before bad.0) e in
-    let upto = both_of (tc && ts) (comes_after is_bad_before before bad) parts.0 in
-    let first = both_of tc ts upto.0 in
+    let parts = and_parts (tc && ts && comes_after is_bad_before before bad) (rows_fit sizes before bad.0) e in
+    let upto = and_parts (tc && ts) (comes_after is_bad_before before bad) parts.0 in
+    let first = and_parts tc ts upto.0 in
     let fc : bad.0 < 2 ^ 8 = omega (arith, below_is sizes.channels bad.0 first.0, small.channels) in
     let fs : bad.1 < 2 ^ 16 = omega (arith, below_is sizes.superblocks bad.1 first.1, small.superblocks) in
     goes_on _ _ _ (number_again_8 (place, range) (is_below sizes.channels) bad.0 place b1 fc first.0)
@@ -152,7 +147,7 @@ unfolding bad_records
 bads_again sizes [] before place more small e =
     same_reading before (before ++ []) place (place + 0) more (sym (append-nil before)) (omega arith)
 bads_again sizes (b ∷ bad) before place more small e =
-    let here = both_of (is_bad_record sizes before b) (are_bad_records sizes (before ++ b ∷ []) bad) e in
+    let here = and_parts (is_bad_record sizes before b) (are_bad_records sizes (before ++ b ∷ []) bad) e in
     let tail : List ℕ = flat_map bad_bytes bad in
     goes_on _ _ _ (bad_again sizes before b place (tail ++ more) small here.0)
     ∙ (bads_again sizes bad (before ++ b ∷ []) (place + 1 + 1 + 2) more small here.1
@@ -208,7 +203,7 @@ programmed_fits (negsuc m) (pos n) e f = record { sfits = grind (arith, common_s
 programmed_fits (negsuc m) (negsuc n) e f = record { sfits = grind (arith, common_steps, ints) }
 
 pub word_count_is : (words : ℕ) → is_word_count words ≡ true → words ≤ 4
-word_count_is words e = within_is 1 4 words (both_of (is_within 1 4 words) (not (words == 3)) e).0
+word_count_is words e = within_is 1 4 words (and_parts (is_within 1 4 words) (not (words == 3)) e).0
 
 -- the number of columns of the base matrix, by itself
 pub columns_are : (sizes : Sizes) → is_column_count sizes ≡ true → is_within (sizes.mb + 1) 128 sizes.nb ≡ true
@@ -216,8 +211,8 @@ columns_are sizes e =
     let a : Bool = is_within (sizes.mb + 1) 128 sizes.nb in
     let b : Bool = (sizes.nb - sizes.mb) * sizes.z % 8 == 0 in
     let c : Bool = sizes.nb * sizes.z % 8 == 0 in
-    let upto = both_of (a && b && c) (nat_le (cells_of sizes) (2 ^ 28)) e in
-    let next = both_of (a && b) c upto.0 in (both_of a b next.0).0
+    let upto = and_parts (a && b && c) (nat_le (cells_of sizes) (2 ^ 28)) e in
+    let next = and_parts (a && b) c upto.0 in (and_parts a b next.0).0
 
 small_page : (payload bytes : ℕ) → payload ≤ 4 * 16384 → bytes ≤ payload - 16 → bytes < 2 ^ 32
 small_page payload bytes p b = omega (arith, p, b)

@@ -3,7 +3,7 @@ use Rattle.std.proofs.Common.{◌≡◌, refl, ℕ, zero, suc, ◌+◌, ◌-◌,
 use Rattle.std.specs.Prelude.{Result, Ok, Err, Option, Some, None, IsTrue, ℤ, flat_map, ◌==◌, if◌then◌else◌, codes, decimal, bytes_eq, nat_le}
 use Rattle.std.specs.List.{list_all, slice_split, enumerate_from}
 use Rattle.std.specs.Fmt.{signed_decimal, digits, digits_onto, digit_glyph}
-use Rattle.std.proofs.lemmas.Bool.{cases_lt}
+use Rattle.std.proofs.lemmas.Bool.{cases_lt, and_from, and_parts, leb-true}
 use Rattle.std.proofs.lemmas.Grind.{common_steps}
 use Rattle.std.proofs.lemmas.List.{append_assoc, append-nil, length-append}
 use Rattle.std.proofs.lemmas.List.Splits.{length-slice_split}
@@ -26,34 +26,32 @@ use Rattle.ssd_geo.specs.declared.row.Row.TheVariants.{Empty, Lost, Page}
 use Rattle.ssd_geo.specs.declared.slot.Slot.{Slot}
 use Rattle.ssd_geo.specs.declared.tag.Tag.{Tag}
 use Rattle.ssd_formats.proofs.FieldLaws.{goes_on}
-use Rattle.ssd_formats.proofs.HeadLaws.{both_of, below_is}
+use Rattle.ssd_formats.proofs.HeadLaws.{below_is}
 use Rattle.ssd_formats.proofs.NumberLaws.{decimal_is_read}
-use Rattle.ssd_formats.proofs.TextLaws.{lacks, same_byte, split_first, split_joined, lacks_joined, decimal_lacks, signed_lacks, small_by, short_is_small, three_of, kind_again, tag_again}
+use Rattle.ssd_formats.proofs.TextLaws.{lacks, split_first, split_joined, lacks_joined, decimal_lacks, signed_lacks, small_by, short_is_small, three_of, kind_again, tag_again}
+use Rattle.shared_lemmas.proofs.Tests.{same_number}
 
 -- whether a word has neither space nor LF
 abbrev pub plain : Text → Bool
 plain word = lacks 32 word && lacks 10 word
 
-and_of : (a b : Bool) → a ≡ true → b ≡ true → (a && b) ≡ true
-and_of a b e f = rw (e, f) refl
-
 pub plain_decimal : (n : ℕ) → n < 2 ^ 64 → plain (decimal n) ≡ true
-plain_decimal n h = and_of (lacks 32 (decimal n)) (lacks 10 (decimal n)) (decimal_lacks 32 n (omega arith) h) (decimal_lacks 10 n (omega arith) h)
+plain_decimal n h = and_from (lacks 32 (decimal n)) (lacks 10 (decimal n)) (decimal_lacks 32 n (omega arith) h) (decimal_lacks 10 n (omega arith) h)
 
 plain_signed : (n : ℤ) → is_short n ≡ true → plain (signed_decimal n) ≡ true
 plain_signed n e =
     let small = short_is_small n e in
-    and_of (lacks 32 (signed_decimal n)) (lacks 10 (signed_decimal n)) (signed_lacks 32 n (omega arith) small) (signed_lacks 10 n (omega arith) small)
+    and_from (lacks 32 (signed_decimal n)) (lacks 10 (signed_decimal n)) (signed_lacks 32 n (omega arith) small) (signed_lacks 10 n (omega arith) small)
 
 spaces_lacked : (c : ℕ) (ns : List ℕ) → c < 46 → list_all (is_below (2 ^ 64)) ns ≡ true → list_all (lacks c) (map decimal ns) ≡ true
 spaces_lacked c [] low e = refl
 spaces_lacked c (n ∷ ns) low e =
-    let both = both_of (is_below (2 ^ 64) n) (list_all (is_below (2 ^ 64)) ns) e in
-    and_of (lacks c (decimal n)) (list_all (lacks c) (map decimal ns)) (decimal_lacks c n (omega (arith, low)) (below_is (2 ^ 64) n both.0)) (spaces_lacked c ns low both.1)
+    let both = and_parts (is_below (2 ^ 64) n) (list_all (is_below (2 ^ 64)) ns) e in
+    and_from (lacks c (decimal n)) (list_all (lacks c) (map decimal ns)) (decimal_lacks c n (omega (arith, low)) (below_is (2 ^ 64) n both.0)) (spaces_lacked c ns low both.1)
 
 plain_dotted : (ns : List ℕ) → list_all (is_below (2 ^ 64)) ns ≡ true → plain (dotted ns) ≡ true
 plain_dotted ns e =
-    and_of (lacks 32 (dotted ns)) (lacks 10 (dotted ns))
+    and_from (lacks 32 (dotted ns)) (lacks 10 (dotted ns))
     (lacks_joined 32 46 (map decimal ns) refl (spaces_lacked 32 ns (omega arith) e))
     (lacks_joined 10 46 (map decimal ns) refl (spaces_lacked 10 ns (omega arith) e))
 
@@ -74,7 +72,7 @@ plain_64 n e = plain_decimal n (small_by (2 ^ 64) n (omega arith) e)
 
 plain_slot : (slot : Slot) → is_spelled_slot slot ≡ true → plain (slot_text slot) ≡ true
 plain_slot slot e =
-    let both = both_of (is_below (2 ^ 16) slot.sb) (is_below (2 ^ 32) slot.index) e in
+    let both = and_parts (is_below (2 ^ 16) slot.sb) (is_below (2 ^ 32) slot.index) e in
     plain_dotted (slot.sb ∷ slot.index ∷ []) (rw (wide (2 ^ 16) slot.sb (omega arith) both.0, wide (2 ^ 32) slot.index (omega arith) both.1) refl)
 
 plain_place : (place : Place) → is_spelled_place place ≡ true → plain (place_text place) ≡ true
@@ -95,7 +93,7 @@ abbrev pub plain_words : List Text → Bool
 plain_words words = list_all plain words
 
 with_word : (word : Text) (words : List Text) → plain word ≡ true → plain_words words ≡ true → plain_words (word ∷ words) ≡ true
-with_word word words e f = and_of (plain word) (plain_words words) e f
+with_word word words e f = and_from (plain word) (plain_words words) e f
 
 plain_fault : (fault : Bool) → plain_words (fault_word fault ∷ []) ≡ true
 plain_fault true = refl
@@ -105,17 +103,17 @@ plain_row : (row : Row) → is_spelled_row row ≡ true → plain_words (row_wor
 plain_row Empty e = refl
 plain_row Lost e = refl
 plain_row (Page slot serial) e =
-    let both = both_of (is_spelled_slot slot) (is_below (2 ^ 64) serial) e in
+    let both = and_parts (is_spelled_slot slot) (is_below (2 ^ 64) serial) e in
     with_word (slot_text slot) (decimal serial ∷ []) (plain_slot slot both.0) (with_word (decimal serial) [] (plain_64 serial both.1) refl)
 
 plain_found : (row : Row) (closed : Bool) → is_spelled_row row ≡ true → plain_words (row_words row ++ closed_words row closed) ≡ true
 plain_found Empty closed e = refl
 plain_found Lost closed e = refl
 plain_found (Page slot serial) true e =
-    let both = both_of (is_spelled_slot slot) (is_below (2 ^ 64) serial) e in
+    let both = and_parts (is_spelled_slot slot) (is_below (2 ^ 64) serial) e in
     with_word (slot_text slot) (decimal serial ∷ codes "closed" ∷ []) (plain_slot slot both.0) (with_word (decimal serial) (codes "closed" ∷ []) (plain_64 serial both.1) refl)
 plain_found (Page slot serial) false e =
-    let both = both_of (is_spelled_slot slot) (is_below (2 ^ 64) serial) e in
+    let both = and_parts (is_spelled_slot slot) (is_below (2 ^ 64) serial) e in
     with_word (slot_text slot) (decimal serial ∷ codes "open" ∷ []) (plain_slot slot both.0) (with_word (decimal serial) (codes "open" ∷ []) (plain_64 serial both.1) refl)
 
 plain_victim : (victim : Option ℕ) → is_spelled_victim victim ≡ true → plain (victim_word victim) ≡ true
@@ -130,7 +128,7 @@ one_block n e = with_word (decimal n) [] (plain_16 n e) refl
 
 number_and_slot : (n : ℕ) (slot : Slot) → (is_below (2 ^ 32) n && is_spelled_slot slot) ≡ true → plain_words (decimal n ∷ slot_text slot ∷ []) ≡ true
 number_and_slot n slot e =
-    let both = both_of (is_below (2 ^ 32) n) (is_spelled_slot slot) e in
+    let both = and_parts (is_below (2 ^ 32) n) (is_spelled_slot slot) e in
     with_word (decimal n) (slot_text slot ∷ []) (plain_32 n both.0) (with_word (slot_text slot) [] (plain_slot slot both.1) refl)
 
 sense_words : (at : ℕ) (place : Place) (level : ℤ) → (is_below (2 ^ 32) at && is_spelled_place place && is_short level) ≡ true → plain_words (decimal at ∷ place_text place ∷ signed_decimal level ∷ []) ≡ true
@@ -164,7 +162,7 @@ plain_kind (Write row slot) e = number_and_slot row slot e
 plain_kind (Trim row) e = one_number row e
 plain_kind (Move at slot) e = number_and_slot at slot e
 plain_kind (Changed at found) e =
-    let both = both_of (is_below (2 ^ 32) at) (is_spelled_row found) e in
+    let both = and_parts (is_below (2 ^ 32) at) (is_spelled_row found) e in
     with_word (decimal at) (row_words found) (plain_32 at both.0) (plain_row found both.1)
 plain_kind (Condemn at) e = one_number at e
 plain_kind (Stay at true) e = worn_words at (codes "readonly") e refl
@@ -174,7 +172,7 @@ plain_kind (Erase sb) e = one_block sb e
 plain_kind (BadWrite row slot die fault) e = bad_slot_words row slot die fault e
 plain_kind (BadCopy at slot die fault) e = bad_slot_words at slot die fault e
 plain_kind (BadErase sb die fault) e =
-    let both = both_of (is_below (2 ^ 16) sb) (is_below (2 ^ 8) die) e in
+    let both = and_parts (is_below (2 ^ 16) sb) (is_below (2 ^ 8) die) e in
     with_word (decimal sb) (decimal die ∷ fault_word fault ∷ []) (plain_16 sb both.0) (with_word (decimal die) (fault_word fault ∷ []) (plain_8 die both.1) (plain_fault fault))
 plain_kind (Age die sb amount) e = age_words die sb amount e
 plain_kind (Refused row true) e = worn_words row (codes "readonly") e refl
@@ -182,8 +180,8 @@ plain_kind (Refused row false) e = worn_words row (codes "full") e refl
 plain_kind (FaultSense at place level) e = sense_words at place level e
 plain_kind (FaultAge die sb amount) e = age_words die sb amount e
 plain_kind (Note free victim live pins garbage) e =
-    let last = both_of (is_below (2 ^ 16) free && is_spelled_victim victim && is_below (2 ^ 32) live && is_below (2 ^ 32) pins) (is_below (2 ^ 16) garbage) e in
-    let fourth = both_of (is_below (2 ^ 16) free && is_spelled_victim victim && is_below (2 ^ 32) live) (is_below (2 ^ 32) pins) last.0 in
+    let last = and_parts (is_below (2 ^ 16) free && is_spelled_victim victim && is_below (2 ^ 32) live && is_below (2 ^ 32) pins) (is_below (2 ^ 16) garbage) e in
+    let fourth = and_parts (is_below (2 ^ 16) free && is_spelled_victim victim && is_below (2 ^ 32) live) (is_below (2 ^ 32) pins) last.0 in
     let parts = three_of (is_below (2 ^ 16) free) (is_spelled_victim victim) (is_below (2 ^ 32) live) fourth.0 in
     with_word (decimal free) (victim_word victim ∷ decimal live ∷ decimal pins ∷ decimal garbage ∷ []) (plain_16 free parts.0)
     (with_word (victim_word victim) (decimal live ∷ decimal pins ∷ decimal garbage ∷ []) (plain_victim victim parts.1)
@@ -194,16 +192,16 @@ plain_kind (Note free victim live pins garbage) e =
 lacks_of_plain : (words : List Text) → plain_words words ≡ true → (list_all (lacks 32) words ≡ true) × (list_all (lacks 10) words ≡ true)
 lacks_of_plain [] e = (refl, refl)
 lacks_of_plain (word ∷ words) e =
-    let both = both_of (plain word) (plain_words words) e in
-    let here = both_of (lacks 32 word) (lacks 10 word) both.0 in
+    let both = and_parts (plain word) (plain_words words) e in
+    let here = and_parts (lacks 32 word) (lacks 10 word) both.0 in
     let others = lacks_of_plain words both.1 in
-    (and_of (lacks 32 word) (list_all (lacks 32) words) here.0 others.0, and_of (lacks 10 word) (list_all (lacks 10) words) here.1 others.1)
+    (and_from (lacks 32 word) (list_all (lacks 32) words) here.0 others.0, and_from (lacks 10 word) (list_all (lacks 10) words) here.1 others.1)
 
 -- the lines of a text
 abbrev pub lines_from : Text → List (Option Text)
 lines_from text = printed_lines (slice_split is_line_feed text)
 
-printed_more : (part : Text) (parts : List Text) → 0 < length parts → printed_lines (part ∷ parts) ≡ Some part ∷ printed_lines parts
+pub printed_more : (part : Text) (parts : List Text) → 0 < length parts → printed_lines (part ∷ parts) ≡ Some part ∷ printed_lines parts
 printed_more part [] some = absurd (omega (arith, some))
 printed_more part (next ∷ parts) some = refl
 
@@ -223,7 +221,7 @@ next_again value words x number rest e some v =
 
 same_text : (text : Text) → bytes_eq text text ≡ true
 same_text [] = refl
-same_text (b ∷ text) = rw (same_byte b, same_text text) refl
+same_text (b ∷ text) = rw (same_number b, same_text text) refl
 
 -- values that were read and the lines after them, for equal values and numbers
 abbrev pub lines_after : {A : Type 0} → A → ℕ → List (Option Text) → Result (A × Printed) ℕ
@@ -231,9 +229,6 @@ lines_after x number lines = Ok (x, record { number = number; lines = lines })
 
 same_lines : {A : Type 0} (x y : A) (m n : ℕ) (lines : List (Option Text)) → x ≡ y → m ≡ n → lines_after x m lines ≡ lines_after y n lines
 same_lines x y m n lines e f = rw (e, f) refl
-
-at_most_is : (n bound : ℕ) → nat_le n bound ≡ true → n ≤ bound
-at_most_is n bound e = grind (arith, common_steps)
 
 false_is_true : false ≡ true → ⊥
 false_is_true e = grind (arith, common_steps)
@@ -260,7 +255,7 @@ unfolding entries_of_lines
 entries_again [] before position number rest at few e =
     same_lines before (before ++ []) number (number + 0) (lines_from rest) (sym (append-nil before)) (omega arith)
 entries_again (entry ∷ entries) before position number rest at few e =
-    let both = both_of (is_spelled_entry entry) (list_all is_spelled_entry entries) e in
+    let both = and_parts (is_spelled_entry entry) (list_all is_spelled_entry entries) e in
     let words : List Text = entry_words position entry in
     let tail : Text = flat_map entry_line (enumerate_from (position + 1) entries) in
     let small : position < 2 ^ 64 = omega (arith, few) in
@@ -298,9 +293,9 @@ histories_again k [] before channel number rest at few e =
     ∙ (ap (λ (b : List (List Entry)). histories_of_lines k b (record { number = number; lines = lines_from rest })) (sym (append-nil before))
     ∙ ap (λ n. histories_of_lines k (before ++ []) (record { number = n; lines = lines_from rest })) number_stays)
 histories_again k (entries ∷ histories) before channel number rest at few e =
-    let both = both_of (is_spelled_history entries) (list_all is_spelled_history histories) e in
-    let here = both_of (nat_le (length entries) most_entries) (list_all is_spelled_entry entries) both.0 in
-    let count : length entries ≤ most_entries = at_most_is (length entries) most_entries here.0 in
+    let both = and_parts (is_spelled_history entries) (list_all is_spelled_history histories) e in
+    let here = and_parts (nat_le (length entries) most_entries) (list_all is_spelled_entry entries) both.0 in
+    let count : length entries ≤ most_entries = leb-true (length entries) most_entries here.0 in
     let words : List Text = codes "channel" ∷ decimal channel ∷ decimal (length entries) ∷ [] in
     let first : Text = flat_map entry_line (enumerate_from 0 entries) in
     let tail : Text = flat_map history_text (enumerate_from (channel + 1) histories) in
@@ -321,8 +316,8 @@ histories_again k (entries ∷ histories) before channel number rest at few e =
 pub histories_are_read : (histories : List (List Entry)) → IsTrue (are_spelled_histories histories) → read_history (length histories) (histories_text histories) ≡ Ok histories
 unfolding histories_of_lines
 histories_are_read histories h =
-    let both = both_of (nat_le (length histories) 256) (list_all is_spelled_history histories) h in
-    let few : 0 + length histories ≤ 512 = omega (arith, at_most_is (length histories) 256 both.0) in
+    let both = and_parts (nat_le (length histories) 256) (list_all is_spelled_history histories) h in
+    let few : 0 + length histories ≤ 512 = omega (arith, leb-true (length histories) 256 both.0) in
     let whole : length histories ≡ length histories + 0 = omega arith in
     ap (λ n. read_history n (histories_text histories)) whole
     ∙ (ap (read_history (length histories + 0)) (sym (append-nil (histories_text histories)))
@@ -340,14 +335,14 @@ glyph_lacks c n low =
 digits_onto_lack : (k c n : ℕ) (acc : Text) → c < 48 → lacks c acc ≡ true → lacks c (digits_onto k 10 false n acc) ≡ true
 digits_onto_lack zero c n acc low e = e
 digits_onto_lack (suc k) c n acc low e =
-    let more : lacks c (digit_glyph false (n % 10) ∷ acc) ≡ true = and_of (not (digit_glyph false (n % 10) == c)) (lacks c acc) (glyph_lacks c n low) e in
+    let more : lacks c (digit_glyph false (n % 10) ∷ acc) ≡ true = and_from (not (digit_glyph false (n % 10) == c)) (lacks c acc) (glyph_lacks c n low) e in
     either_lacks c (n / 10 == 0) (digit_glyph false (n % 10) ∷ acc) (digits_onto k 10 false (n / 10) (digit_glyph false (n % 10) ∷ acc)) more
     (digits_onto_lack k c (n / 10) (digit_glyph false (n % 10) ∷ acc) low more)
 
 any_decimal_plain : (n : ℕ) → plain (decimal n) ≡ true
 unfolding digits
 any_decimal_plain n =
-    and_of (lacks 32 (decimal n)) (lacks 10 (decimal n)) (digits_onto_lack 64 32 n [] (omega arith) refl) (digits_onto_lack 64 10 n [] (omega arith) refl)
+    and_from (lacks 32 (decimal n)) (lacks 10 (decimal n)) (digits_onto_lack 64 32 n [] (omega arith) refl) (digits_onto_lack 64 10 n [] (omega arith) refl)
 
 -- a line that spells no value
 next_none : {A : Type 0} (value : List Text → Option A) (words : List Text) (number : ℕ) (rest : Text) → plain_words words ≡ true → 0 < length words → value words ≡ None →
@@ -371,7 +366,7 @@ no_channel channel number (given ∷ answers) s =
     (append_assoc (line_of words ++ own_replies) others (summary_text s) ∙ append_assoc (line_of words) own_replies (others ++ summary_text s))
     ∙ next_none (count_of_words channel) words number (own_replies ++ (others ++ summary_text s)) is_plain (omega arith) refl
 
-stays_err : {A B F : Type 0} (read : Result A F) (fault : F) (next : A → Result B F) → read ≡ Err fault → (read >>= next) ≡ Err fault
+pub stays_err : {A B F : Type 0} (read : Result A F) (fault : F) (next : A → Result B F) → read ≡ Err fault → (read >>= next) ≡ Err fault
 stays_err read fault next e = ap (λ r. r >>= next) e
 
 abbrev first_of : {A B : Type 0} → A → Result (A × B) ℕ → A
@@ -396,10 +391,10 @@ told_by_fewer : (levels levels' : ℕ) (histories histories' : List (List Entry)
     length histories ≤ length histories' → IsTrue (are_spelled_histories histories) → IsTrue (are_spelled_histories histories') →
     run_text true levels histories kinds answers dropped ≡ run_text true levels' histories' kinds' answers' dropped' → histories ≡ histories'
 told_by_fewer levels levels' histories histories' kinds kinds' answers answers' dropped dropped' fewer h h' e =
-    let both = both_of (nat_le (length histories) 256) (list_all is_spelled_history histories) h in
-    let both' = both_of (nat_le (length histories') 256) (list_all is_spelled_history histories') h' in
-    let few : 0 + length histories ≤ 512 = omega (arith, at_most_is (length histories) 256 both.0) in
-    let few' : 0 + length histories' ≤ 512 = omega (arith, at_most_is (length histories') 256 both'.0) in
+    let both = and_parts (nat_le (length histories) 256) (list_all is_spelled_history histories) h in
+    let both' = and_parts (nat_le (length histories') 256) (list_all is_spelled_history histories') h' in
+    let few : 0 + length histories ≤ 512 = omega (arith, leb-true (length histories) 256 both.0) in
+    let few' : 0 + length histories' ≤ 512 = omega (arith, leb-true (length histories') 256 both'.0) in
     let k : ℕ = length histories' - length histories in
     let s : Summary = summary_of levels histories kinds answers dropped in
     let s' : Summary = summary_of levels' histories' kinds' answers' dropped' in

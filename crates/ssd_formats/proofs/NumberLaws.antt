@@ -2,13 +2,15 @@
 use Rattle.std.proofs.Common.{◌≡◌, refl, ℕ, zero, suc, ◌+◌, ◌*◌, ◌/◌, ◌%◌, ◌^◌, ◌<◌, Bool, true, false, cond, List, [], ◌∷◌, length, arith, ap, ◌∙◌, sym, get_or}
 use Rattle.std.specs.Prelude.{Some, None, option_map, decimal, ℤ, pos, negsuc, unsigned_abs, All}
 use Rattle.std.specs.Fmt.{signed_decimal, digit_glyph}
-use Rattle.std.specs.Str.{all_ascii_digits}
+use Rattle.std.specs.Str.{IsUtf8, all_ascii_digits}
 use Rattle.std.specs.Str.Parse.{digits_value}
-use Rattle.std.proofs.lemmas.Fmt.{decimal_nonempty, first_decimal, digits_decimal, digits_value-decimal, decimal_digit, decimal-digits_value}
+use Rattle.std.proofs.lemmas.Fmt.{IsAscii-from_digits, decimal_nonempty, first_decimal, digits_decimal, digits_value-decimal, decimal_digit, decimal-digits_value}
+use Rattle.std.proofs.lemmas.Str.{IsUtf8-from_ascii}
 use Rattle.std.proofs.lemmas.Str.Parse.{IsNumeralModel, numerals_by_value, tells_all_ascii_digits}
 use Rattle.std.proofs.lemmas.List.Elements.{All-head, All-tail}
 use Rattle.std.proofs.lemmas.Grind.{common_steps}
 use Rattle.ssd_formats.specs.Numbers.{is_number, number_of_text, signed_of_text, hex_digit, bytes_of_hex, hex_of_bytes}
+use Rattle.std.proofs.lemmas.Option.{cond_some}
 
 pub own : IsNumeralModel (λ ds. all_ascii_digits ds ≡ true) (digits_value 10)
 own = numerals_by_value _ tells_all_ascii_digits
@@ -17,9 +19,12 @@ spelled_is_number : (ds : List ℕ) → all_ascii_digits ds ≡ true → 0 < len
 spelled_is_number [] a b h = grind (arith, common_steps)
 spelled_is_number (c ∷ cs) a b h = grind (arith, common_steps)
 
-number_is_spelled : (ds : List ℕ) → is_number ds ≡ true → (all_ascii_digits ds ≡ true) × (0 < length ds) × (get_or ds 0 0 ≡ 48 → length ds ≡ 1)
+pub number_is_spelled : (ds : List ℕ) → is_number ds ≡ true → (all_ascii_digits ds ≡ true) × (0 < length ds) × (get_or ds 0 0 ≡ 48 → length ds ≡ 1)
 number_is_spelled [] a = grind (arith, common_steps)
 number_is_spelled (c ∷ cs) a = grind (arith, common_steps)
+
+pub number_is_utf8 : (word : List ℕ) → is_number word ≡ true → IsUtf8 word
+number_is_utf8 word e = IsUtf8-from_ascii word (IsAscii-from_digits word (own.to word (number_is_spelled word e).0))
 
 first_of_decimal : (n : ℕ) → n < 2 ^ 64 → get_or (decimal n) 0 0 ≡ 48 → length (decimal n) ≡ 1
 first_of_decimal zero h e = ap length (decimal_digit 0 (omega arith))
@@ -38,13 +43,9 @@ pub decimal_is_read : (n : ℕ) → n < 2 ^ 64 → number_of_text (decimal n) �
 decimal_is_read n h =
     spelled_is_read (decimal n) (decimal_is_number n h) ∙ ap Some (digits_value-decimal own n h)
 
-value_if : (b : Bool) (m n : ℕ) → cond b (Some m) None ≡ Some n → (b ≡ true) × (m ≡ n)
-value_if true m n e = (refl, grind (arith, common_steps))
-value_if false m n e = grind (arith, common_steps)
-
 pub number_has_one_text : (text : List ℕ) (n : ℕ) → n < 2 ^ 64 → number_of_text text ≡ Some n → text ≡ decimal n
 number_has_one_text text n h e =
-    let both : (is_number text ≡ true) × (digits_value 10 text ≡ n) = value_if (is_number text) (digits_value 10 text) n e in
+    let both : (is_number text ≡ true) × (digits_value 10 text ≡ n) = cond_some (is_number text) (digits_value 10 text) n e in
     let spelled : (all_ascii_digits text ≡ true) × (0 < length text) × (get_or text 0 0 ≡ 48 → length text ≡ 1) = number_is_spelled text both.0 in
     let small : digits_value 10 text < 2 ^ 64 = omega (arith, both.1, h) in
     sym (decimal-digits_value own text spelled.0 spelled.1 spelled.2 small) ∙ ap decimal both.1

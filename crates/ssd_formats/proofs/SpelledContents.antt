@@ -3,7 +3,7 @@ use Rattle.std.proofs.Common.{◌≡◌, refl, ℕ, zero, suc, ◌+◌, ◌-◌,
 use Rattle.std.specs.Prelude.{Ok, Option, Some, None, ℤ, nat_lt, ◌==◌, if◌then◌else◌}
 use Rattle.std.specs.List.{list_all}
 use Rattle.std.specs.Int.{w8, w16, w32, from_le_bytes}
-use Rattle.std.proofs.lemmas.Bool.{cases_lt}
+use Rattle.std.proofs.lemmas.Bool.{cases_lt, and_parts, eqb-true, eq-eqb}
 use Rattle.std.proofs.lemmas.Grind.{common_steps}
 use Rattle.std.specs.Option.{option_map_or}
 use Rattle.std.proofs.lemmas.List.{length-map, length-append, append_assoc, append-nil}
@@ -23,9 +23,9 @@ use Rattle.ssd_geo.specs.declared.row.Row.{Row}
 use Rattle.ssd_geo.specs.declared.row.Row.TheVariants.{Empty, Lost, Page}
 use Rattle.ssd_geo.specs.declared.superblock.SbState.{SbState}
 use Rattle.ssd_geo.specs.declared.superblock.SbState.TheVariants.{Free, Frontier, Sealed, Bad, Victim}
-use Rattle.ssd_formats.proofs.ContentsLaws.{equal_is}
-use Rattle.ssd_formats.proofs.HeadLaws.{both_of, within_is}
+use Rattle.ssd_formats.proofs.HeadLaws.{within_is}
 use Rattle.ssd_formats.proofs.SpelledHeads.{went_on, passed, value_else, never, on_part, on_number, on_any_64, on_field, levels_are, AreMore, all_snoc, still_bytes, after, whole_field, is_read, below_if, number_32_small, small_at, are_taken}
+use Rattle.ssd_histories.proofs.UsedSlots.{due_used}
 
 one_at_most : (b : Bool) → (if b then 1 else 0) ≤ 1
 one_at_most true = omega arith
@@ -56,14 +56,7 @@ due_at_most pages dies sb used die few =
           omega (arith, nothing, most)
     ]
 
-due_used_fits : (slots used : ℕ) (state : SbState) → has_due_used slots state used ≡ true → used ≤ slots
-due_used_fits slots used Free e = grind (arith, common_steps)
-due_used_fits slots used Frontier e = grind (arith, common_steps)
-due_used_fits slots used Sealed e = grind (arith, common_steps)
-due_used_fits slots used Bad e = grind (arith, common_steps)
-due_used_fits slots used Victim e = grind (arith, common_steps)
-
-within_if : (n high : ℕ) → n ≤ high → is_within 0 high n ≡ true
+pub within_if : (n high : ℕ) → n ≤ high → is_within 0 high n ≡ true
 within_if n high h = grind (arith, common_steps)
 
 count_fits : (sizes : Sizes) (state : SbState) (sb used die n : ℕ) (bad : Bool) → is_bad state ≡ bad → used ≤ slots_of_sizes sizes → is_programmed_count sizes state sb used die n ≡ true → n ≤ sizes.pages
@@ -74,14 +67,14 @@ count_fits sizes state sb used die n true is few e =
 count_fits sizes state sb used die n false is few e =
     let due : ℕ = due_pages sizes.dies sb used die in
     let test : (n == due) ≡ true = ap (λ b. if b then is_within due sizes.pages n else (n == due)) (sym is) ∙ e in
-    omega (arith, equal_is n due test, due_at_most sizes.pages sizes.dies sb used die few)
+    omega (arith, eqb-true n due test, due_at_most sizes.pages sizes.dies sb used die few)
 
 counts_snoc : (sizes : Sizes) (state : SbState) (sb used : ℕ) (xs pre : List ℕ) (n : ℕ) → are_programmed_counts sizes state sb used pre xs ≡ true →
     (is_programmed_count sizes state sb used (length (pre ++ xs)) n && is_within 0 sizes.pages n) ≡ true → are_programmed_counts sizes state sb used pre (xs ++ n ∷ []) ≡ true
 counts_snoc sizes state sb used [] pre n e f =
     let here : (is_programmed_count sizes state sb used (length pre) n && is_within 0 sizes.pages n) ≡ true = ap (λ (l : List ℕ). is_programmed_count sizes state sb used (length l) n && is_within 0 sizes.pages n) (sym (append-nil pre)) ∙ f in rw here refl
 counts_snoc sizes state sb used (x ∷ xs) pre n e f =
-    let both = both_of (is_programmed_count sizes state sb used (length pre) x && is_within 0 sizes.pages x) (are_programmed_counts sizes state sb used (pre ++ x ∷ []) xs) e in
+    let both = and_parts (is_programmed_count sizes state sb used (length pre) x && is_within 0 sizes.pages x) (are_programmed_counts sizes state sb used (pre ++ x ∷ []) xs) e in
     let later = counts_snoc sizes state sb used xs (pre ++ x ∷ []) n both.1 (ap (λ (l : List ℕ). is_programmed_count sizes state sb used (length l) n && is_within 0 sizes.pages n) (append_assoc pre (x ∷ []) xs) ∙ f) in
     rw (both.0, later) refl
 
@@ -103,9 +96,6 @@ counts_are sizes state sb used (suc n) before rest x few are good e =
     let more = counts_are sizes state sb used n (before ++ s.0 ∷ []) s.1 x few b (counts_snoc sizes state sb used before [] s.0 good (rw (t, fits) refl)) follows in
     record { due = more.due; count = omega (arith, more.count, length-append before (s.0 ∷ [])); left = more.left })
 
-equal_if : (m n : ℕ) → m ≡ n → (m == n) ≡ true
-equal_if m n e = grind (arith, common_steps)
-
 pages_are : (cells n : ℕ) (before : List (List ℤ)) (rest : Rest) (x : List (List ℤ) × Rest) → are_bytes rest.bytes ≡ true → are_pages cells before ≡ true → page_fields cells n before rest ≡ Ok x → AreMore (is_page cells) n before x
 unfolding page_fields
 pages_are cells zero before rest x are good e =
@@ -114,7 +104,7 @@ pages_are cells zero before rest x are good e =
 pages_are cells (suc n) before rest x are good e =
     on_part (AreMore (is_page cells) (suc n) before x) (level_fields cells [] rest) _ x e (λ s read follows.
     let page = levels_are cells [] rest s are refl read in
-    let size : (length s.0 == cells) ≡ true = equal_if (length s.0) cells (omega (arith, page.count)) in
+    let size : (length s.0 == cells) ≡ true = eq-eqb (length s.0) cells (omega (arith, page.count)) in
     let is : is_page cells s.0 ≡ true = rw (size, page.pass) refl in
     let more = pages_are cells n (before ++ s.0 ∷ []) s.1 x page.left (all_snoc (is_page cells) before s.0 good is) follows in
     record { pass = more.pass; count = omega (arith, more.count, length-append before (s.0 ∷ [])); left = more.left })
@@ -196,7 +186,7 @@ sum_is head block rest x true o are e =
     let whole : read ≡ Ok x = ap (λ c. if c then read else Ok ([], rest)) (sym o) ∙ e in
     let parts = passed (rest.place, faults.sum) n is_checked (λ bytes. bytes) rest x whole in
     let long = long_enough n is_checked rest x (rest.place, faults.sum) whole in
-    let test : (length x.0 == n && is_checked x.0) ≡ true = rw (equal_if (length x.0) n long, parts.0) refl in
+    let test : (length x.0 == n && is_checked x.0) ≡ true = rw (eq-eqb (length x.0) n long, parts.0) refl in
     record { is = ap (λ c. if c then (length x.0 == n && is_checked x.0) else (length x.0 == 0)) o ∙ test; left = still_bytes n rest x.1 are parts.2 }
 sum_is head block rest x false o are e =
     let n : ℕ = word_bytes_of head.sizes in
@@ -237,7 +227,7 @@ block_is head channel before rest x are e =
     on_field (IsBlockRead head channel before x) (er.1.place, faults.count) 4 (has_due_used (slots_of_sizes sizes) st.0) (from_le_bytes w32) er.1 _ x be n1 (λ us tu vu bu n2.
     let low : is_below (2 ^ 32) us.0 ≡ true = below_if us.0 (2 ^ 32) (omega (arith, vu, number_32_small (take 4 er.1.bytes) (small_at (take 4 er.1.bytes) (are_taken 4 er.1.bytes be)))) in
     on_part (IsBlockRead head channel before x) (programmed_fields sizes st.0 (length before) us.0 sizes.dies [] us.1) _ x n2 (λ pr read3 n3.
-    let counts = counts_are sizes st.0 (length before) us.0 sizes.dies [] us.1 pr (due_used_fits (slots_of_sizes sizes) us.0 st.0 tu) bu refl read3 in
+    let counts = counts_are sizes st.0 (length before) us.0 sizes.dies [] us.1 pr (due_used (slots_of_sizes sizes) st.0 us.0 tu) bu refl read3 in
     on_part (IsBlockRead head channel before x) (die_fields (page_cells_of sizes) pr.0 [] pr.1) _ x n3 (λ pg read4 n4.
     let pages = dies_are (page_cells_of sizes) pr.0 [] pr.1 pg counts.left refl read4 in
     let block : BlockBase = record { state = st.0; erases = er.0; used = us.0 } in
@@ -246,7 +236,7 @@ block_is head channel before rest x are e =
     let sizes_of_all : length (map length pg.0) ≡ length pg.0 = length-map pg.0 length in
     let same_sizes : length (map length pg.0) ≡ length pr.0 = ap (λ (l : List ℕ). length l) pages.count in
     let all : length pg.0 ≡ sizes.dies = omega (arith, sizes_of_all, same_sizes, counts.count) in
-    let each : (length pg.0 == sizes.dies) ≡ true = equal_if (length pg.0) sizes.dies all in
+    let each : (length pg.0 == sizes.dies) ≡ true = eq-eqb (length pg.0) sizes.dies all in
     let due : are_programmed_counts sizes st.0 (length before) us.0 [] (map length pg.0) ≡ true = ap (are_programmed_counts sizes st.0 (length before) us.0 []) pages.count ∙ counts.due in
     block_given head channel before (record { block = block; pages = pg.0; sum = sm.0 }) sm.1 x n5 (rw (may, te, low, tu, each, due, pages.pass, sum.is) refl) sum.left))))))
 
@@ -254,7 +244,7 @@ blocks_snoc : (head : Head) (channel : ℕ) (xs pre : List SavedBlock) (b : Save
 blocks_snoc head channel [] pre b e f =
     let here : is_saved_block head channel pre b ≡ true = ap (λ l. is_saved_block head channel l b) (sym (append-nil pre)) ∙ f in rw here refl
 blocks_snoc head channel (x ∷ xs) pre b e f =
-    let both = both_of (is_saved_block head channel pre x) (are_saved_blocks head channel (pre ++ x ∷ []) xs) e in
+    let both = and_parts (is_saved_block head channel pre x) (are_saved_blocks head channel (pre ++ x ∷ []) xs) e in
     let later = blocks_snoc head channel xs (pre ++ x ∷ []) b both.1 (ap (λ l. is_saved_block head channel l b) (append_assoc pre (x ∷ []) xs) ∙ f) in
     rw (both.0, later) refl
 
@@ -315,7 +305,7 @@ rows_snoc : (sizes : Sizes) (blocks : List BlockBase) (xs pre : List Row) (of : 
 rows_snoc sizes blocks [] pre of e f =
     let here : is_saved_row sizes blocks pre of ≡ true = ap (λ l. is_saved_row sizes blocks l of) (sym (append-nil pre)) ∙ f in rw here refl
 rows_snoc sizes blocks (x ∷ xs) pre of e f =
-    let both = both_of (is_saved_row sizes blocks pre x) (are_saved_rows sizes blocks (pre ++ x ∷ []) xs) e in
+    let both = and_parts (is_saved_row sizes blocks pre x) (are_saved_rows sizes blocks (pre ++ x ∷ []) xs) e in
     let later = rows_snoc sizes blocks xs (pre ++ x ∷ []) of both.1 (ap (λ l. is_saved_row sizes blocks l of) (append_assoc pre (x ∷ []) xs) ∙ f) in
     rw (both.0, later) refl
 

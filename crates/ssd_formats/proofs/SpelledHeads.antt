@@ -12,7 +12,7 @@ use Rattle.ssd_formats.specs.ImageHead.{Head, Fixed, IsHead, first_beginning, is
 use Rattle.ssd_geo.specs.BaseMatrix.{BaseMatrix, first_fault}
 use Rattle.ssd_geo.specs.declared.weak.Weak.{Weak}
 use Rattle.std.proofs.lemmas.List.{length-append, append_assoc, append-nil, length-take-le}
-use Rattle.ssd_formats.proofs.HeadLaws.{both_of}
+use Rattle.std.proofs.lemmas.Bool.{and_parts}
 
 abbrev pub is_read : {A F : Type 0} → Result A F → Bool
 is_read (Ok x) = true
@@ -56,18 +56,18 @@ pub are_taken : (n : ℕ) (bytes : List ℕ) → are_bytes bytes ≡ true → ar
 are_taken zero bytes e = refl
 are_taken (suc n) [] e = refl
 are_taken (suc n) (b ∷ bytes) e =
-    let both = both_of (nat_lt b 256) (are_bytes bytes) e in rw (both.0, are_taken n bytes both.1) refl
+    let both = and_parts (nat_lt b 256) (are_bytes bytes) e in rw (both.0, are_taken n bytes both.1) refl
 
 are_left : (n : ℕ) (bytes : List ℕ) → are_bytes bytes ≡ true → are_bytes (drop n bytes) ≡ true
 are_left zero bytes e = e
 are_left (suc n) [] e = refl
-are_left (suc n) (b ∷ bytes) e = are_left n bytes (both_of (nat_lt b 256) (are_bytes bytes) e).1
+are_left (suc n) (b ∷ bytes) e = are_left n bytes (and_parts (nat_lt b 256) (are_bytes bytes) e).1
 
 pub small_at : (bytes : List ℕ) → are_bytes bytes ≡ true → (i : ℕ) → get_or bytes i 0 < 256
 small_at [] e i = omega arith
 small_at (b ∷ bytes) e zero =
-    let both = both_of (nat_lt b 256) (are_bytes bytes) e in grind (arith, common_steps)
-small_at (b ∷ bytes) e (suc i) = small_at bytes (both_of (nat_lt b 256) (are_bytes bytes) e).1 i
+    let both = and_parts (nat_lt b 256) (are_bytes bytes) e in grind (arith, common_steps)
+small_at (b ∷ bytes) e (suc i) = small_at bytes (and_parts (nat_lt b 256) (are_bytes bytes) e).1 i
 
 -- the bytes that are left are bytes
 pub still_bytes : (n : ℕ) (rest left : Rest) → are_bytes rest.bytes ≡ true → left ≡ after n rest → are_bytes left.bytes ≡ true
@@ -269,7 +269,7 @@ chosen_ok false fault y x e = absurd (never (ap is_read e))
 pub all_snoc : {A : Type 0} (test : A → Bool) (xs : List A) (y : A) → list_all test xs ≡ true → test y ≡ true → list_all test (xs ++ y ∷ []) ≡ true
 all_snoc test [] y e f = rw f refl
 all_snoc test (x ∷ xs) y e f =
-    let both = both_of (test x) (list_all test xs) e in rw (both.0, all_snoc test xs y both.1 f) refl
+    let both = and_parts (test x) (list_all test xs) e in rw (both.0, all_snoc test xs y both.1 f) refl
 
 -- so many more were read, each passes a test, and bytes are left
 pub record AreMore {A : Type 0} (test : A → Bool) (n : ℕ) (before : List A) (x : List A × Rest) : Type 0 where
@@ -294,18 +294,18 @@ record IsMatrix (sizes : Sizes) (x : List ℤ × Rest) : Type 0 where
   faultless : first_fault (record { z = sizes.z; mb = sizes.mb; nb = sizes.nb; entries = x.0 }) ≡ None
   left : are_bytes x.1.bytes ≡ true
 
-fits_short : (n : ℤ) → FitsSigned w16 n → is_short n ≡ true
+pub fits_short : (n : ℤ) → FitsSigned w16 n → is_short n ≡ true
 fits_short (pos n) h = let small : n < 2 ^ 15 = h.sfits in grind (arith, common_steps, ints)
 fits_short (negsuc n) h = let small = h.sfits in grind (arith, common_steps, ints)
 
-picked_short : (b : Bool) (n : ℕ) → nat_lt n (2 ^ 15) ≡ b → is_short (if b then pos n else negsuc (2 ^ 16 - suc n)) ≡ true
+pub picked_short : (b : Bool) (n : ℕ) → nat_lt n (2 ^ 15) ≡ b → is_short (if b then pos n else negsuc (2 ^ 16 - suc n)) ≡ true
 picked_short true n e = fits_short (pos n) (record { sfits = grind (arith, common_steps) })
 picked_short false n e = fits_short (negsuc (2 ^ 16 - suc n)) (record { sfits = grind (arith, common_steps) })
 
-signed_short : (n : ℕ) → is_short (cast_signed w16 n) ≡ true
+pub signed_short : (n : ℕ) → is_short (cast_signed w16 n) ≡ true
 signed_short n = picked_short (nat_lt n (2 ^ 15)) n refl
 
-all_short : (bytes : List ℕ) → list_all is_short (signed_numbers bytes) ≡ true
+pub all_short : (bytes : List ℕ) → list_all is_short (signed_numbers bytes) ≡ true
 all_short [] = refl
 all_short (low ∷ []) = refl
 all_short (low ∷ high ∷ bytes) = rw (signed_short (from_le_bytes w16 (low ∷ high ∷ [])), all_short bytes) refl
@@ -373,11 +373,11 @@ weak_is sizes before rest x are e =
     let known : IsWeakRead sizes before (weak, s4.1) = record { is_weak = rw (t1, t2, t3, parts.0) refl; from = t4; left = r4 } in
     subst (λ (p : Weak × Rest). IsWeakRead sizes before p) parts.1 known))))
 
-weak_snoc : (sizes : Sizes) (xs pre : List Weak) (w : Weak) → are_weak_records sizes pre xs ≡ true → is_weak_record sizes (pre ++ xs) w ≡ true → are_weak_records sizes pre (xs ++ w ∷ []) ≡ true
+pub weak_snoc : (sizes : Sizes) (xs pre : List Weak) (w : Weak) → are_weak_records sizes pre xs ≡ true → is_weak_record sizes (pre ++ xs) w ≡ true → are_weak_records sizes pre (xs ++ w ∷ []) ≡ true
 weak_snoc sizes [] pre w e f =
     let here : is_weak_record sizes pre w ≡ true = ap (λ l. is_weak_record sizes l w) (sym (append-nil pre)) ∙ f in rw here refl
 weak_snoc sizes (x ∷ xs) pre w e f =
-    let both = both_of (is_weak_record sizes pre x) (are_weak_records sizes (pre ++ x ∷ []) xs) e in
+    let both = and_parts (is_weak_record sizes pre x) (are_weak_records sizes (pre ++ x ∷ []) xs) e in
     let later = weak_snoc sizes xs (pre ++ x ∷ []) w both.1 (ap (λ l. is_weak_record sizes l w) (append_assoc pre (x ∷ []) xs) ∙ f) in
     rw (both.0, later) refl
 
@@ -422,11 +422,11 @@ bad_is sizes before rest x are e =
     let known : IsBadRead sizes before (bad, s3.1) = record { is_bad = rw (t1, t3, parts.0, parts.1) refl; left = r3 } in
     subst (λ (p : (ℕ × ℕ) × Rest). IsBadRead sizes before p) parts.2 known)))
 
-bad_snoc : (sizes : Sizes) (xs pre : List (ℕ × ℕ)) (b : ℕ × ℕ) → are_bad_records sizes pre xs ≡ true → is_bad_record sizes (pre ++ xs) b ≡ true → are_bad_records sizes pre (xs ++ b ∷ []) ≡ true
+pub bad_snoc : (sizes : Sizes) (xs pre : List (ℕ × ℕ)) (b : ℕ × ℕ) → are_bad_records sizes pre xs ≡ true → is_bad_record sizes (pre ++ xs) b ≡ true → are_bad_records sizes pre (xs ++ b ∷ []) ≡ true
 bad_snoc sizes [] pre b e f =
     let here : is_bad_record sizes pre b ≡ true = ap (λ l. is_bad_record sizes l b) (sym (append-nil pre)) ∙ f in rw here refl
 bad_snoc sizes (x ∷ xs) pre b e f =
-    let both = both_of (is_bad_record sizes pre x) (are_bad_records sizes (pre ++ x ∷ []) xs) e in
+    let both = and_parts (is_bad_record sizes pre x) (are_bad_records sizes (pre ++ x ∷ []) xs) e in
     let later = bad_snoc sizes xs (pre ++ x ∷ []) b both.1 (ap (λ l. is_bad_record sizes l b) (append_assoc pre (x ∷ []) xs) ∙ f) in
     rw (both.0, later) refl
 

@@ -21,8 +21,10 @@ use Rattle.ssd_geo.specs.declared.row.Row.{Row}
 use Rattle.ssd_geo.specs.declared.row.Row.TheVariants.{Empty, Lost, Page}
 use Rattle.ssd_geo.specs.declared.slot.Slot.{Slot}
 use Rattle.ssd_geo.specs.declared.tag.Tag.{Tag}
-use Rattle.ssd_formats.proofs.HeadLaws.{both_of, below_is}
+use Rattle.ssd_formats.proofs.HeadLaws.{below_is}
 use Rattle.ssd_formats.proofs.NumberLaws.{own, decimal_is_read, signed_is_read}
+use Rattle.std.proofs.lemmas.Bool.{and_parts, not-true}
+use Rattle.shared_lemmas.proofs.Tests.{same_number}
 
 -- goes on with a value that is there
 then_some : {A B : Type 0} (read : Option A) (x : A) (next : A → Option B) → read ≡ Some x → (read >>= next) ≡ next x
@@ -32,44 +34,37 @@ then_some read x next e = ap (λ r. r >>= next) e
 abbrev pub lacks : ℕ → Text → Bool
 lacks c text = list_all (λ b. not (b == c)) text
 
-false_of : (b : Bool) → not b ≡ true → b ≡ false
-false_of true e = sym e
-false_of false e = refl
-
-pub same_byte : (c : ℕ) → (c == c) ≡ true
-same_byte c = grind (arith, common_steps)
-
 split_last : (c : ℕ) (word : Text) → lacks c word ≡ true → slice_split (λ b. b == c) word ≡ word ∷ []
 split_last c [] e = refl
 split_last c (b ∷ word) e =
-    let both = both_of (not (b == c)) (lacks c word) e in
-    rw (false_of (b == c) both.0, split_last c word both.1) refl
+    let both = and_parts (not (b == c)) (lacks c word) e in
+    rw (not-true (b == c) both.0, split_last c word both.1) refl
 
 pub split_first : (c : ℕ) (word rest : Text) → lacks c word ≡ true → slice_split (λ b. b == c) (word ++ c ∷ rest) ≡ word ∷ slice_split (λ b. b == c) rest
-split_first c [] rest e = rw (same_byte c) refl
+split_first c [] rest e = rw (same_number c) refl
 split_first c (b ∷ word) rest e =
-    let both = both_of (not (b == c)) (lacks c word) e in
-    rw (false_of (b == c) both.0, split_first c word rest both.1) refl
+    let both = and_parts (not (b == c)) (lacks c word) e in
+    rw (not-true (b == c) both.0, split_first c word rest both.1) refl
 
 -- words with a byte between them that none of them has
 pub split_joined : (c : ℕ) (words : List Text) → list_all (lacks c) words ≡ true → 0 < length words → slice_split (λ b. b == c) (join_with_byte c words) ≡ words
 split_joined c [] e some = absurd (omega (arith, some))
-split_joined c (word ∷ []) e some = split_last c word (both_of (lacks c word) true e).0
+split_joined c (word ∷ []) e some = split_last c word (and_parts (lacks c word) true e).0
 split_joined c (word ∷ next ∷ words) e some =
-    let both = both_of (lacks c word) (list_all (lacks c) (next ∷ words)) e in
+    let both = and_parts (lacks c word) (list_all (lacks c) (next ∷ words)) e in
     split_first c word (join_with_byte c (next ∷ words)) both.0
     ∙ ap (λ (rest : List Text). word ∷ rest) (split_joined c (next ∷ words) both.1 (omega arith))
 
 pub lacks_append : (c : ℕ) (a b : Text) → lacks c a ≡ true → lacks c b ≡ true → lacks c (a ++ b) ≡ true
 lacks_append c [] b e f = f
 lacks_append c (x ∷ a) b e f =
-    let both = both_of (not (x == c)) (lacks c a) e in rw (both.0, lacks_append c a b both.1 f) refl
+    let both = and_parts (not (x == c)) (lacks c a) e in rw (both.0, lacks_append c a b both.1 f) refl
 
 pub lacks_joined : (c d : ℕ) (words : List Text) → (d == c) ≡ false → list_all (lacks c) words ≡ true → lacks c (join_with_byte d words) ≡ true
 lacks_joined c d [] apart e = refl
-lacks_joined c d (word ∷ []) apart e = (both_of (lacks c word) true e).0
+lacks_joined c d (word ∷ []) apart e = (and_parts (lacks c word) true e).0
 lacks_joined c d (word ∷ next ∷ words) apart e =
-    let both = both_of (lacks c word) (list_all (lacks c) (next ∷ words)) e in
+    let both = and_parts (lacks c word) (list_all (lacks c) (next ∷ words)) e in
     let rest : lacks c (d ∷ join_with_byte d (next ∷ words)) ≡ true = rw (apart, lacks_joined c d (next ∷ words) apart both.1) refl in
     lacks_append c word (d ∷ join_with_byte d (next ∷ words)) both.0 rest
 
@@ -79,7 +74,7 @@ digit_is_other c d low e = grind (arith, common_steps)
 digits_lack : (c : ℕ) (digits : Text) → c < 48 → all_ascii_digits digits ≡ true → lacks c digits ≡ true
 digits_lack c [] low e = refl
 digits_lack c (d ∷ digits) low e =
-    let both = both_of (is_ascii_digit d) (all_ascii_digits digits) e in
+    let both = and_parts (is_ascii_digit d) (all_ascii_digits digits) e in
     let no : not (d == c) ≡ true = digit_is_other c d low both.0 in
     rw (no, digits_lack c digits low both.1) refl
 
@@ -120,15 +115,15 @@ small_by bound n few e = omega (arith, below_is bound n e, few)
 
 slot_again : (slot : Slot) → is_spelled_slot slot ≡ true → read_slot (slot_text slot) ≡ Some slot
 slot_again slot e =
-    let both = both_of (is_below (2 ^ 16) slot.sb) (is_below (2 ^ 32) slot.index) e in
+    let both = and_parts (is_below (2 ^ 16) slot.sb) (is_below (2 ^ 32) slot.index) e in
     ap slot_in_parts (two_parts slot.sb slot.index (small_by (2 ^ 16) slot.sb (omega arith) both.0) (small_by (2 ^ 32) slot.index (omega arith) both.1))
     ∙ (then_some _ _ _ (below_again (2 ^ 16) slot.sb (omega arith) both.0)
     ∙ then_some _ _ _ (below_again (2 ^ 32) slot.index (omega arith) both.1))
 
 place_again : (place : Place) → is_spelled_place place ≡ true → read_place (place_text place) ≡ Some place
 place_again place e =
-    let both = both_of (is_below (2 ^ 8) place.die && is_below (2 ^ 16) place.sb) (is_below (2 ^ 16) place.page) e in
-    let first = both_of (is_below (2 ^ 8) place.die) (is_below (2 ^ 16) place.sb) both.0 in
+    let both = and_parts (is_below (2 ^ 8) place.die && is_below (2 ^ 16) place.sb) (is_below (2 ^ 16) place.page) e in
+    let first = and_parts (is_below (2 ^ 8) place.die) (is_below (2 ^ 16) place.sb) both.0 in
     ap place_in_parts (three_parts place.die place.sb place.page (small_by (2 ^ 8) place.die (omega arith) first.0) (small_by (2 ^ 16) place.sb (omega arith) first.1) (small_by (2 ^ 16) place.page (omega arith) both.1))
     ∙ (then_some _ _ _ (below_again (2 ^ 8) place.die (omega arith) first.0)
     ∙ (then_some _ _ _ (below_again (2 ^ 16) place.sb (omega arith) first.1)
@@ -148,20 +143,20 @@ row_again : (row : Row) → is_spelled_row row ≡ true → read_row (row_words 
 row_again Empty e = refl
 row_again Lost e = refl
 row_again (Page slot serial) e =
-    let both = both_of (is_spelled_slot slot) (is_below (2 ^ 64) serial) e in
+    let both = and_parts (is_spelled_slot slot) (is_below (2 ^ 64) serial) e in
     then_some _ _ _ (slot_again slot both.0) ∙ then_some _ _ _ (below_again (2 ^ 64) serial (omega arith) both.1)
 
 found_again : (row : Row) (closed : Bool) → is_spelled_row row ≡ true → is_closed_of_page row closed ≡ true → read_found (row_words row ++ closed_words row closed) ≡ Some (row, closed)
-found_again Empty closed e c = ap (λ b. Some (Empty, b)) (sym (false_of closed c))
-found_again Lost closed e c = ap (λ b. Some (Lost, b)) (sym (false_of closed c))
+found_again Empty closed e c = ap (λ b. Some (Empty, b)) (sym (not-true closed c))
+found_again Lost closed e c = ap (λ b. Some (Lost, b)) (sym (not-true closed c))
 found_again (Page slot serial) true e c = then_some _ _ _ (row_again (Page slot serial) e)
 found_again (Page slot serial) false e c = then_some _ _ _ (row_again (Page slot serial) e)
 
 not_dash : (digits : Text) → all_ascii_digits digits ≡ true → bytes_eq digits (codes "-") ≡ false
 not_dash [] e = refl
 not_dash (d ∷ digits) e =
-    let both = both_of (is_ascii_digit d) (all_ascii_digits digits) e in
-    let no : (d == 45) ≡ false = false_of (d == 45) (digit_is_other 45 d (omega arith) both.0) in rw no refl
+    let both = and_parts (is_ascii_digit d) (all_ascii_digits digits) e in
+    let no : (d == 45) ≡ false = not-true (d == 45) (digit_is_other 45 d (omega arith) both.0) in rw no refl
 
 victim_again : (victim : Option ℕ) → is_spelled_victim victim ≡ true → read_victim (victim_word victim) ≡ Some victim
 victim_again None e = refl
@@ -171,8 +166,8 @@ victim_again (Some sb) e =
 -- which parts of a conjunction hold
 pub three_of : (a b c : Bool) → (a && b && c) ≡ true → (a ≡ true) × (b ≡ true) × (c ≡ true)
 three_of a b c e =
-    let both = both_of (a && b) c e in
-    let first = both_of a b both.0 in
+    let both = and_parts (a && b) c e in
+    let first = and_parts a b both.0 in
     (first.0, first.1, both.1)
 
 n8 : (n : ℕ) → is_below (2 ^ 8) n ≡ true → number_8 (decimal n) ≡ Some n
@@ -193,7 +188,7 @@ sense_again kind at place level e =
 slotted_again : (kind : ℕ → Slot → Kind) (n : ℕ) (slot : Slot) → (is_below (2 ^ 32) n && is_spelled_slot slot) ≡ true →
     read_slotted kind (decimal n ∷ slot_text slot ∷ []) ≡ Some (kind n slot)
 slotted_again kind n slot e =
-    let both = both_of (is_below (2 ^ 32) n) (is_spelled_slot slot) e in
+    let both = and_parts (is_below (2 ^ 32) n) (is_spelled_slot slot) e in
     then_some _ _ _ (n32 n both.0) ∙ then_some _ _ _ (slot_again slot both.1)
 
 bad_slot_again : (kind : ℕ → Slot → ℕ → Bool → Kind) (n : ℕ) (slot : Slot) (die : ℕ) (fault : Bool) → (is_below (2 ^ 32) n && is_spelled_slot slot && is_below (2 ^ 8) die) ≡ true →
@@ -221,7 +216,7 @@ kind_again (Write row slot) e = slotted_again Write row slot e
 kind_again (Trim row) e = then_some _ _ _ (n32 row e)
 kind_again (Move at slot) e = slotted_again Move at slot e
 kind_again (Changed at found) e =
-    let both = both_of (is_below (2 ^ 32) at) (is_spelled_row found) e in
+    let both = and_parts (is_below (2 ^ 32) at) (is_spelled_row found) e in
     then_some _ _ _ (n32 at both.0) ∙ then_some _ _ _ (row_again found both.1)
 kind_again (Condemn at) e = then_some _ _ _ (n32 at e)
 kind_again (Stay at true) e = then_some _ _ _ (n32 at e)
@@ -231,10 +226,10 @@ kind_again (Erase sb) e = then_some _ _ _ (n16 sb e)
 kind_again (BadWrite row slot die fault) e = bad_slot_again BadWrite row slot die fault e
 kind_again (BadCopy at slot die fault) e = bad_slot_again BadCopy at slot die fault e
 kind_again (BadErase sb die true) e =
-    let both = both_of (is_below (2 ^ 16) sb) (is_below (2 ^ 8) die) e in
+    let both = and_parts (is_below (2 ^ 16) sb) (is_below (2 ^ 8) die) e in
     then_some _ _ _ (n16 sb both.0) ∙ then_some _ _ _ (n8 die both.1)
 kind_again (BadErase sb die false) e =
-    let both = both_of (is_below (2 ^ 16) sb) (is_below (2 ^ 8) die) e in
+    let both = and_parts (is_below (2 ^ 16) sb) (is_below (2 ^ 8) die) e in
     then_some _ _ _ (n16 sb both.0) ∙ then_some _ _ _ (n8 die both.1)
 kind_again (Age die sb amount) e = age_again Age die sb amount e
 kind_again (Refused row true) e = then_some _ _ _ (n32 row e)
@@ -242,8 +237,8 @@ kind_again (Refused row false) e = then_some _ _ _ (n32 row e)
 kind_again (FaultSense at place level) e = sense_again FaultSense at place level e
 kind_again (FaultAge die sb amount) e = age_again FaultAge die sb amount e
 kind_again (Note free victim live pins garbage) e =
-    let last = both_of (is_below (2 ^ 16) free && is_spelled_victim victim && is_below (2 ^ 32) live && is_below (2 ^ 32) pins) (is_below (2 ^ 16) garbage) e in
-    let fourth = both_of (is_below (2 ^ 16) free && is_spelled_victim victim && is_below (2 ^ 32) live) (is_below (2 ^ 32) pins) last.0 in
+    let last = and_parts (is_below (2 ^ 16) free && is_spelled_victim victim && is_below (2 ^ 32) live && is_below (2 ^ 32) pins) (is_below (2 ^ 16) garbage) e in
+    let fourth = and_parts (is_below (2 ^ 16) free && is_spelled_victim victim && is_below (2 ^ 32) live) (is_below (2 ^ 32) pins) last.0 in
     let parts = three_of (is_below (2 ^ 16) free) (is_spelled_victim victim) (is_below (2 ^ 32) live) fourth.0 in
     then_some _ _ _ (n16 free parts.0) ∙ (then_some _ _ _ (victim_again victim parts.1) ∙ (then_some _ _ _ (n32 live parts.2)
     ∙ (then_some _ _ _ (n32 pins fourth.1) ∙ then_some _ _ _ (n16 garbage last.1))))

@@ -176,8 +176,8 @@ row_field sizes blocks before rest = do
 unfoldable pub row_fields : Sizes → List BlockBase → ℕ → List Row → Rest → Reading (List Row)
 row_fields sizes blocks zero before rest = Ok (before, rest)
 row_fields sizes blocks (suc n) before rest = do
-  of ← row_field sizes blocks before rest
-  row_fields sizes blocks n (before ++ of.0 ∷ []) of.1
+  row ← row_field sizes blocks before rest
+  row_fields sizes blocks n (before ++ row.0 ∷ []) row.1
 
 -- the contents of a channel
 unfoldable pub channel_fields : Head → ℕ → Rest → Reading ChannelImage
@@ -285,10 +285,10 @@ pages_at sb blocks = let cells : BlockCells = slice_index_or blocks sb blank_cel
 -- what a channel is saved as: each superblock of its base with the pages of its dies, the running sum at the one with
 -- an open stripe, and the rows of its base
 abbrev pub saved_block : Sizes → List ℕ → List (List BlockCells) → ℕ × BlockBase → SavedBlock
-saved_block sizes sum cells of = record {
-  block = of.1;
-  pages = map (pages_at of.0) cells;
-  sum = (if is_stripe_open sizes of.1 then sum else []);
+saved_block sizes sum cells numbered = record {
+  block = numbered.1;
+  pages = map (pages_at numbered.0) cells;
+  sum = (if is_stripe_open sizes numbered.1 then sum else []);
 }
 
 abbrev pub saved_channel : ChannelBase → List (List BlockCells) → ChannelImage
@@ -345,8 +345,8 @@ is_saved_row sizes blocks before (Page slot serial) =
 
 abbrev pub are_saved_rows : Sizes → List BlockBase → List Row → List Row → Bool
 are_saved_rows sizes blocks before [] = true
-are_saved_rows sizes blocks before (of ∷ more) =
-    is_saved_row sizes blocks before of && are_saved_rows sizes blocks (before ++ of ∷ []) more
+are_saved_rows sizes blocks before (row ∷ more) =
+    is_saved_row sizes blocks before row && are_saved_rows sizes blocks (before ++ row ∷ []) more
 
 -- what has a spelling as the contents of a channel
 pub record IsSaved (head : Head) (channel : ℕ) (saved : ChannelImage) : Type 0 where

@@ -1,14 +1,12 @@
 -- What does a whole input give, an image and then a trace, and what is its first fault? And when has code read such a
 -- part? The definitions of formats give plain records; here they meet the types that the code has.
 use Rattle.std.specs.Prelude.{◌≡◌, ℕ, List, Result, Ok, Err}
-use Rattle.ssd_geo.specs.BlockCells.{BlockCells}
 use Rattle.ssd_formats.specs.Fields.{Rest, ◌>>=◌}
-use Rattle.ssd_formats.specs.ImageContents.{ChannelImage, IsBaseOf, cells_of_saved, read_channel, read_image}
+use Rattle.ssd_formats.specs.ImageContents.{ChannelImage, read_image}
 use Rattle.ssd_formats.specs.ImageHead.{Head, head_of, read_head}
 use Rattle.ssd_formats.specs.InputFaults.{ImageFault, TraceFault}
 use Rattle.ssd_formats.specs.Statuses.{Status, image, trace}
 use Rattle.ssd_formats.specs.TraceText.{read_trace}
-use Rattle.ssd_geo.specs.declared.base.ChannelBase.{ChannelBase}
 use Rattle.ssd_geo.specs.declared.head.ImageHead.{ImageHead}
 use Rattle.ssd_geo.specs.declared.trace.Trace.{Trace}
 
@@ -41,20 +39,3 @@ HasHead bytes head left = read_head bytes ≡ Ok (head_of head, record { place =
 -- the bytes begin with no head: this is their first fault
 abbrev pub HasNoHead : List ℕ → ℕ → ImageFault → Type 0
 HasNoHead bytes at fault = read_head bytes ≡ Err (at, fault)
-
--- The head now is the one before, with the place that was reached.
-abbrev pub rest_at : ImageHead → List ℕ → Rest
-rest_at head bytes = record { place = head.place; bytes = bytes }
-
--- the bytes go on with a channel: its base and the cells of its dies, die by die and block by block; the head is as it
--- was but for the place reached, and these bytes are left
-pub record HasChannel (before after : ImageHead) (channel : ℕ) (bytes left : List ℕ) (base : ChannelBase) (cells : List (List BlockCells)) : Type 0 where
-  pub saved : ChannelImage
-  pub read : read_channel (head_of before) channel (rest_at before bytes) ≡ Ok (saved, rest_at after left)
-  pub same_head : head_of after ≡ head_of before
-  pub is_base : IsBaseOf (head_of before) channel saved base
-  pub are_cells : cells ≡ cells_of_saved (head_of before).sizes saved
-
--- the bytes go on with no channel: this is their first fault
-abbrev pub HasNoChannel : ImageHead → ℕ → List ℕ → ℕ → ImageFault → Type 0
-HasNoChannel before channel bytes at fault = read_channel (head_of before) channel (rest_at before bytes) ≡ Err (at, fault)

@@ -1,13 +1,10 @@
--- How do the replies of calls stand in a text, and which replies has a call of each kind? The texts are this project's
--- own.
+-- How do the replies of calls stand in a text? The texts are this project's own.
 use Rattle.std.specs.Prelude.{ℕ, Bool, true, false, List, [], ◌∷◌, ◌++◌, map, length, flat_map, codes, decimal}
 use Rattle.std.specs.List.{enumerate_from}
 use Rattle.ssd_formats.specs.Numbers.{Text, hex_of_bytes}
 use Rattle.ssd_formats.specs.EntryText.{line_of}
-use Rattle.ssd_geo.specs.declared.reply.CallKind.{CallKind}
 use Rattle.ssd_geo.specs.declared.reply.RefreshReply.{RefreshReply}
 use Rattle.ssd_geo.specs.declared.reply.Reply.{Reply}
-use Rattle.ssd_geo.specs.declared.reply.CallKind.TheVariants as kinds
 use Rattle.ssd_geo.specs.declared.reply.RefreshReply.TheVariants as refreshes
 use Rattle.ssd_geo.specs.declared.reply.Reply.TheVariants as replies
 
@@ -58,36 +55,8 @@ actor_line actor count = line_of (codes "actor" ∷ decimal actor ∷ decimal co
 
 -- the replies of an actor
 abbrev pub actor_text : ℕ × List Reply → Text
-actor_text of = actor_line of.0 (length of.1) ++ flat_map reply_line (enumerate_from 0 of.1)
+actor_text numbered = actor_line numbered.0 (length numbered.1) ++ flat_map reply_line (enumerate_from 0 numbered.1)
 
 -- the replies of all actors, in their order
 abbrev pub actors_text : List (List Reply) → Text
 actors_text replies = flat_map actor_text (enumerate_from 0 replies)
-
--- whether a call of this kind may have this reply
-abbrev pub is_reply_of : CallKind → Reply → Bool
-is_reply_of kinds.Write replies.Ok = true
-is_reply_of kinds.Write replies.Full = true
-is_reply_of kinds.Write replies.ReadOnly = true
-is_reply_of kinds.Write (replies.DieFault die) = true
-is_reply_of kinds.Read (replies.Data rung bytes) = true
-is_reply_of kinds.Read replies.Empty = true
-is_reply_of kinds.Read replies.Uncorrectable = true
-is_reply_of kinds.Read (replies.DieFault die) = true
-is_reply_of kinds.Trim replies.Ok = true
-is_reply_of kinds.Refresh replies.Moved = true
-is_reply_of kinds.Refresh replies.Changed = true
-is_reply_of kinds.Refresh replies.Empty = true
-is_reply_of kinds.Refresh replies.Uncorrectable = true
-is_reply_of kinds.Refresh replies.NoRoom = true
-is_reply_of kinds.Refresh replies.ReadOnly = true
-is_reply_of kinds.Refresh replies.Failed = true
-is_reply_of kinds.Refresh (replies.DieFault die) = true
-is_reply_of kinds.Collect (replies.Collected sb) = true
-is_reply_of kinds.Collect (replies.Retired sb) = true
-is_reply_of kinds.Collect replies.Idle = true
-is_reply_of kinds.Collect (replies.DieFault die) = true
-is_reply_of kinds.Drain (replies.Drained pages) = true
-is_reply_of kinds.Age replies.Ok = true
-is_reply_of kinds.Age (replies.DieFault die) = true
-is_reply_of kind reply = false

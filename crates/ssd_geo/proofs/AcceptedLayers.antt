@@ -108,7 +108,7 @@ at_least_two entry first (suc n) i j s t low less high e f =
 
 -- ---- what an accepted matrix has
 
-none_from : {X : Type 0} (o : Option X) → IsTrue (is_none o) → o ≡ None
+pub none_from : {X : Type 0} (o : Option X) → IsTrue (is_none o) → o ≡ None
 none_from None h = refl
 none_from (Some x) h = absurd (cc)
 
@@ -120,7 +120,7 @@ none_second : {X : Type 0} (a b : Option X) → option_or a b ≡ None → b ≡
 none_second None b h = h
 none_second (Some x) b h = absurd (cc)
 
-none_under : {X Y : Type 0} (f : X → Y) (o : Option X) → option_map f o ≡ None → o ≡ None
+pub none_under : {X Y : Type 0} (f : X → Y) (o : Option X) → option_map f o ≡ None → o ≡ None
 none_under f None h = refl
 none_under f (Some x) h = absurd (cc)
 
@@ -139,13 +139,13 @@ none_in_range test n k h l =
     let f : k ≡ get_or (range_with_len 0 n) k 0 = omega arith in
     ap test f ∙ find_none test (range_with_len 0 n) k h (omega (arith, length-range_with_len 0 n))
 
-range_ok : (m : BaseMatrix) → IsAccepted m → range_fault m ≡ None
+pub range_ok : (m : BaseMatrix) → IsAccepted m → range_fault m ≡ None
 range_ok m h = none_first (range_fault m) _ (none_from (first_fault m) h.faultless)
 
-column_ok : (m : BaseMatrix) → IsAccepted m → column_fault m ≡ None
+pub column_ok : (m : BaseMatrix) → IsAccepted m → column_fault m ≡ None
 column_ok m h = none_first (column_fault m) _ (none_second (range_fault m) _ (none_from (first_fault m) h.faultless))
 
-diagonal_ok : (m : BaseMatrix) → IsAccepted m → diagonal_fault m ≡ None
+pub diagonal_ok : (m : BaseMatrix) → IsAccepted m → diagonal_fault m ≡ None
 diagonal_ok m h = none_second (column_fault m) _ (none_second (range_fault m) _ (none_from (first_fault m) h.faultless))
 
 not_false : (b : Bool) → not b ≡ false → b ≡ true

@@ -1,6 +1,7 @@
 pub mod AcceptedLayers
 pub mod ApartRows
 pub mod BitsOfBytes
+pub mod CheckedCodewords
 pub mod DecodingBounds
 pub mod FoundWords
 pub mod LadderBound

@@ -21,7 +21,7 @@ none_of n = omega arith
 none_at : (n : ℕ) → 0 + 0 * n ≡ 0
 none_at n = omega arith
 
-next_piece : (f n : ℕ) → (f + 1) * n ≡ f * n + n
+pub next_piece : (f n : ℕ) → (f + 1) * n ≡ f * n + n
 next_piece f n = omega arith
 
 -- a range of one piece is the piece

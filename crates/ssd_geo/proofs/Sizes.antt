@@ -3,6 +3,7 @@ use Rattle.std.proofs.Common.{◌≡◌, ◌≢◌, ℕ, ◌+◌, ◌-◌, ◌*�
 use Rattle.std.specs.List.{position_or_len}
 use Rattle.std.proofs.lemmas.Bool.Decides.{nat_tests}
 use Rattle.ssd_geo.specs.Limits.{cells_of, first_size_fault, is_column_count, is_within, is_word_count, most_rows_of, payload_bytes_of, ranges_kept, IsWithinLimits, FaultlessSizesAreWithin}
+use Rattle.std.proofs.lemmas.Bool.{le-leb, leb-true, eqb-true, eq-eqb}
 
 -- all tests are passed
 abbrev AllPassed : List Bool → Type 0
@@ -31,10 +32,10 @@ end_from_none : (n m : ℕ) → found_below n m ≡ None → m ≤ n
 end_from_none n m h = grind (arith, nat_tests)
 
 -- a test of a range
-between : (low high n : ℕ) → is_within low high n ≡ true → (low ≤ n) × (n ≤ high)
+pub between : (low high n : ℕ) → is_within low high n ≡ true → (low ≤ n) × (n ≤ high)
 between low high n e = (grind (arith, nat_tests), grind (arith, nat_tests))
 
-is_within_from : (low high n : ℕ) → low ≤ n → n ≤ high → is_within low high n ≡ true
+pub is_within_from : (low high n : ℕ) → low ≤ n → n ≤ high → is_within low high n ≡ true
 is_within_from low high n l h = grind (arith, nat_tests)
 
 -- the tests that count with nb
@@ -45,25 +46,12 @@ whole_tests true true false d e = absurd (cc)
 whole_tests true false c d e = absurd (cc)
 whole_tests false b c d e = absurd (cc)
 
-whole_from_tests : (a b c d : Bool) → a ≡ true → b ≡ true → c ≡ true → d ≡ true → (a && b && c && d) ≡ true
+pub whole_from_tests : (a b c d : Bool) → a ≡ true → b ≡ true → c ≡ true → d ≡ true → (a && b && c && d) ≡ true
 whole_from_tests true true true true p q r s = refl
 whole_from_tests true true true false p q r s = s
 whole_from_tests true true false d p q r s = absurd (cc)
 whole_from_tests true false c d p q r s = absurd (cc)
 whole_from_tests false b c d p q r s = absurd (cc)
-
--- two numbers that are the same, and two in order, by their tests
-same_from_test : (a b : ℕ) → (a == b) ≡ true → a ≡ b
-same_from_test a b e = grind (arith, nat_tests)
-
-test_from_same : (a b : ℕ) → a ≡ b → (a == b) ≡ true
-test_from_same a b e = grind (arith, nat_tests)
-
-order_from_test : (a b : ℕ) → nat_le a b ≡ true → a ≤ b
-order_from_test a b e = grind (arith, nat_tests)
-
-test_from_order : (a b : ℕ) → a ≤ b → nat_le a b ≡ true
-test_from_order a b h = grind (arith, nat_tests)
 
 -- whole bytes, in bits
 pub whole_eighths : (bits : ℕ) → bits % 8 ≡ 0 → 8 * (bits / 8) ≡ bits
@@ -130,9 +118,9 @@ faultless_sizes_are_within sizes =
             base_rows_high = m.1;
             base_columns_low = b.0;
             base_columns_high = b.1;
-            whole_payload_bytes = same_from_test part 0 columns.1;
-            whole_word_bytes = same_from_test code 0 columns.2;
-            cells_high = order_from_test cells (2 ^ 28) columns.3;
+            whole_payload_bytes = eqb-true part 0 columns.1;
+            whole_word_bytes = eqb-true code 0 columns.2;
+            cells_high = leb-true cells (2 ^ 28) columns.3;
             bytes_low = d.0;
             bytes_high = let high : sizes.bytes ≤ payload - 16 = d.1 in let low : 1 ≤ sizes.bytes = d.0 in bytes_fit sizes.bytes payload low high;
             rows_low = r.0;
@@ -142,9 +130,9 @@ faultless_sizes_are_within sizes =
           let columns : is_column_count sizes ≡ true =
           whole_from_tests (is_within (sizes.mb + 1) 128 sizes.nb) (part == 0) (code == 0) (nat_le cells (2 ^ 28))
           (is_within_from (sizes.mb + 1) 128 sizes.nb w.base_columns_low w.base_columns_high)
-          (test_from_same part 0 w.whole_payload_bytes)
-          (test_from_same code 0 w.whole_word_bytes)
-          (test_from_order cells (2 ^ 28) w.cells_high) in
+          (eq-eqb part 0 w.whole_payload_bytes)
+          (eq-eqb code 0 w.whole_word_bytes)
+          (le-leb cells (2 ^ 28) w.cells_high) in
           let high : sizes.bytes ≤ payload - 16 = bytes_fitted sizes.bytes payload w.bytes_high in
           let all : AllPassed tests = (
             word_count_from sizes.words w.words_low w.words_high w.words_not_three,

@@ -45,10 +45,10 @@ picked_same xs ys (p ∷ places) h =
 
 -- ---- the places of a row
 
-variable_at : (layer : List (ℕ × ℕ)) (z t e : ℕ) → e < length layer → get_or (variables_of layer z t) e 0 ≡ variable_of z t (get_or layer e (0, 0))
+pub variable_at : (layer : List (ℕ × ℕ)) (z t e : ℕ) → e < length layer → get_or (variables_of layer z t) e 0 ≡ variable_of z t (get_or layer e (0, 0))
 variable_at layer z t e h = get_or-map (variable_of z t) layer e (0, 0) 0 h
 
-edge_at : (blocks z t e : ℕ) → e < blocks → get_or (edges_of blocks z t) e 0 ≡ e * z + t
+pub edge_at : (blocks z t e : ℕ) → e < blocks → get_or (edges_of blocks z t) e 0 ≡ e * z + t
 edge_at blocks z t e h = get_or-map-range_with_len (λ k. k * z + t) 0 blocks e e 0 h (omega arith)
 
 edge_count_is : (blocks z t : ℕ) → length (edges_of blocks z t) ≡ blocks
@@ -79,7 +79,7 @@ row_edges : (layer : List (ℕ × ℕ)) (z t : ℕ) (s : List ℤ × List ℤ) �
 unfolding row_worked
 row_edges layer z t s = refl
 
-length-row_edges : (layer : List (ℕ × ℕ)) (z n : ℕ) (s : List ℤ × List ℤ) → length (rows_worked layer z n s).1 ≡ length s.1
+pub length-row_edges : (layer : List (ℕ × ℕ)) (z n : ℕ) (s : List ℤ × List ℤ) → length (rows_worked layer z n s).1 ≡ length s.1
 length-row_edges layer z zero s = refl
 length-row_edges layer z (suc n) s =
     let before = rows_worked layer z n s in
@@ -132,12 +132,12 @@ length-given_of [] rs h = refl
 length-given_of (p ∷ ps) [] h = absurd (omega arith)
 length-given_of (p ∷ ps) (r ∷ rs) h = ap suc (length-given_of ps rs (omega arith))
 
-length-sums_of : (qs rs : List ℤ) → length qs ≡ length rs → length (sums_of qs rs) ≡ length qs
+pub length-sums_of : (qs rs : List ℤ) → length qs ≡ length rs → length (sums_of qs rs) ≡ length qs
 length-sums_of [] rs h = refl
 length-sums_of (q ∷ qs) [] h = absurd (omega arith)
 length-sums_of (q ∷ qs) (r ∷ rs) h = ap suc (length-sums_of qs rs (omega arith))
 
-length-row_rule : (q : List ℤ) → length (row_rule q) ≡ length q
+pub length-row_rule : (q : List ℤ) → length (row_rule q) ≡ length q
 unfolding row_rule
 length-row_rule q = length-map-range_with_len (λ i. told_by (remove q i)) 0 (length q)
 

@@ -5,6 +5,7 @@ use Rattle.ssd_geo.specs.Bits.{bits_of}
 use Rattle.ssd_geo.specs.CodeExamples.{small_matrix}
 use Rattle.ssd_geo.specs.RowRule.{row_rule}
 use Rattle.ssd_geo.specs.Decoding.{after_iterations, decode, row_worked}
+use Rattle.ssd_geo.specs.Senses.{hard_value}
 
 pub row_rule_basic : row_rule (pos 10 ∷ negsuc 3 ∷ pos 7 ∷ []) ≡ negsuc 2 ∷ pos 5 ∷ negsuc 2 ∷ []
 unfolding row_rule
@@ -17,11 +18,6 @@ row_rule_zero = refl
 pub row_rule_greatest : row_rule (pos 127 ∷ pos 127 ∷ []) ≡ pos 95 ∷ pos 95 ∷ []
 unfolding row_rule
 row_rule_greatest = refl
-
--- the values of hard bits: 32 for 0 and -32 for 1
-abbrev hard_value : Bool → ℤ
-hard_value false = pos 32
-hard_value true = negsuc 31
 
 -- the values of the word 00 83 0b, which is the codeword 01 83 0b with bit 0 turned
 abbrev one_flip : List ℤ

@@ -28,20 +28,13 @@ use Rattle.ssd_histories.specs.States as States
 use Rattle.ssd_histories.proofs.OneOfEach.{found_block}
 use Rattle.ssd_histories.proofs.PinnedWords.{next_sound, slot_block, usable_next}
 use Rattle.ssd_histories.proofs.UsedSlots.{block_is, first_holds, made, of_some, second_holds, slot_in_range}
-
-differs : (k sb : ℕ) → k < sb → (k == sb) ≡ false
-differs k sb h = grind (arith, nat_tests)
-
-differs_above : (k sb : ℕ) → sb < k → (k == sb) ≡ false
-differs_above k sb h = grind (arith, nat_tests)
-
-itself : (n : ℕ) → (n == n) ≡ true
-itself n = grind (arith, nat_tests)
+use Rattle.std.proofs.lemmas.Bool.{ltb-true}
+use Rattle.shared_lemmas.proofs.Tests.{is_other_above, is_other, same_number}
 
 -- two lists of superblocks that agree above one of them
 above_same : (f g : ℕ → BlockBase) (k a n : ℕ) → k < a → ((sb : ℕ) → (k == sb) ≡ false → g sb ≡ f sb) → map g (range_with_len a n) ≡ map f (range_with_len a n)
 above_same f g k a zero lt h = refl
-above_same f g k a (suc n) lt h = rw (h a (differs k a lt), above_same f g k (a + 1) n (omega arith) h) refl
+above_same f g k a (suc n) lt h = rw (h a (is_other k a lt), above_same f g k (a + 1) n (omega arith) h) refl
 
 -- two lists of superblocks that agree but at one of them
 all_but_one : (f g : ℕ → BlockBase) (k a i n : ℕ) (x : BlockBase) → k ≡ a + i → g k ≡ x → ((sb : ℕ) → (k == sb) ≡ false → g sb ≡ f sb)
@@ -52,7 +45,7 @@ all_but_one f g k a zero (suc n) x e here h =
     let first : g a ≡ x = ap {B = BlockBase} g at ∙ here in
     rw (first, above_same f g k (a + 1) n (omega arith) h) refl
 all_but_one f g k a (suc i) (suc n) x e here h =
-    rw (h a (differs_above k a (omega arith)), all_but_one f g k (a + 1) i n x (omega arith) here h) refl
+    rw (h a (is_other_above k a (omega arith)), all_but_one f g k (a + 1) i n x (omega arith) here h) refl
 
 -- the superblocks after a change of one
 one_changed : (base : ChannelBase) (past : List Entry) (entry : Entry) (k : ℕ) (x : BlockBase) → block_of base (entry ∷ past) k ≡ x
@@ -83,7 +76,7 @@ usable_unpicked true false slots used e = refl
 usable_unpicked false true slots used e = absurd (grind arith)
 usable_unpicked false false slots used e = refl
 
-usable_no_victim : (state : SbState) → (States.is_frontier state || States.is_free state) ≡ true → States.is_victim state ≡ false
+pub usable_no_victim : (state : SbState) → (States.is_frontier state || States.is_free state) ≡ true → States.is_victim state ≡ false
 usable_no_victim SbState.Victim e = absurd (grind arith)
 usable_no_victim SbState.Free e = refl
 usable_no_victim SbState.Frontier e = refl
@@ -105,7 +98,7 @@ programmed_step base past entry slot next range after =
     let unpicked : is_picked base past slot.sb ≡ false = usable_unpicked (is_bad_superblock base past slot.sb) (is_picked base past slot.sb) (slots_in base) (used_of base past slot.sb) usable in
     let here : if_programmed (is_bad_superblock base past slot.sb) (is_picked base past slot.sb) (slots_in base) (erases_of base past slot.sb) (used_of base past slot.sb) (slot.sb == slot.sb)
     ≡ if_programmed false false (slots_in base) (erases_of base past slot.sb) (used_of base past slot.sb) true =
-    λ i. if_programmed (next_sound base past slot next range i) (unpicked i) (slots_in base) (erases_of base past slot.sb) (used_of base past slot.sb) (itself slot.sb i) in
+    λ i. if_programmed (next_sound base past slot next range i) (unpicked i) (slots_in base) (erases_of base past slot.sb) (used_of base past slot.sb) (same_number slot.sb i) in
     let made_it : if_programmed false false (slots_in base) (erases_of base past slot.sb) (used_of base past slot.sb) true ≡ Blocks.with_slot_used (slots_in base) (block_of base past slot.sb) =
     ap {B = BlockBase} (λ (state : SbState). block state (erases_of base past slot.sb) (used_of base past slot.sb + 1)) (programmed_state (slots_in base) (used_of base past slot.sb)) in
     one_changed base past entry slot.sb (Blocks.with_slot_used (slots_in base) (Blocks.block_at blocks slot.sb))
@@ -133,7 +126,7 @@ retired_step base past entry slot next range after =
     let made_it : block SbState.Bad (erases_of base past k) (used_of base past k) ≡ Blocks.retired_block (block_of base past k) =
     sym (ap {B = BlockBase} (λ (b : Bool). block SbState.Bad (erases_of base past k) (if b then 0 else used_of base past k)) no_victim) in
     one_changed base past entry k (Blocks.retired_block (Blocks.block_at (blocks_of base past) k))
-    (after k ∙ ap {B = BlockBase} (retired k) (itself k)
+    (after k ∙ ap {B = BlockBase} (retired k) (same_number k)
     ∙ bad_now (States.is_bad (block_before base k).state) (list_any (λ other. turns_bad k other.kind) past) (is_picked base past k) (slots_in base) (erases_of base past k) (used_of base past k)
     ∙ made_it ∙ sym (ap {B = BlockBase} Blocks.retired_block (block_is base past k within)))
     (λ sb other. after sb ∙ ap {B = BlockBase} (retired sb) other)
@@ -156,7 +149,7 @@ unerased_step base past tag named die fault victim =
     let made_it : block SbState.Bad (erases_of base past named) 0 ≡ Blocks.retired_block (block_of base past named) =
     sym (ap {B = BlockBase} (λ (b : Bool). block SbState.Bad (erases_of base past named) (if b then 0 else used_of base past named)) found.1) in
     one_changed base past entry named (Blocks.retired_block (Blocks.block_at (blocks_of base past) named))
-    (ap {B = BlockBase} (after named) (itself named)
+    (ap {B = BlockBase} (after named) (same_number named)
     ∙ unerased_bad (States.is_bad (block_before base named).state) (list_any (λ other. turns_bad named other.kind) past) (is_picked base past named) (slots_in base) (erases_of base past named) (used_of base past named)
     ∙ made_it ∙ sym (ap {B = BlockBase} Blocks.retired_block (block_is base past named found.0)))
     (λ sb other. ap {B = BlockBase} (after sb) other)
@@ -168,7 +161,7 @@ picked_step base past tag named lt sound =
     let made_it : after named true ≡ Blocks.victim_block (block_of base past named) =
     ap {B = BlockBase} (λ (bad : Bool). block (state_by bad true (slots_in base) (used_of base past named)) (erases_of base past named) (used_of base past named)) sound in
     one_changed base past (made tag (Kind.Pick named)) named (Blocks.victim_block (Blocks.block_at (blocks_of base past) named))
-    (ap {B = BlockBase} (after named) (itself named) ∙ made_it ∙ sym (ap {B = BlockBase} Blocks.victim_block (block_is base past named lt)))
+    (ap {B = BlockBase} (after named) (same_number named) ∙ made_it ∙ sym (ap {B = BlockBase} Blocks.victim_block (block_is base past named lt)))
     (λ sb other. ap {B = BlockBase} (after sb) other)
 
 -- no more erases of a superblock
@@ -187,7 +180,7 @@ erased_step base past tag named victim =
     let made_it : after named (erases_of base past named + 1) true ≡ Blocks.erased_block (block_of base past named) =
     ap {B = BlockBase} (λ (bad : Bool). block (state_by bad false (slots_in base) 0) (erases_of base past named + 1) 0) sound in
     one_changed base past entry named (Blocks.erased_block (Blocks.block_at (blocks_of base past) named))
-    ((λ i. after named (one_more_erase base past entry named (itself named) i) (itself named i))
+    ((λ i. after named (one_more_erase base past entry named (same_number named) i) (same_number named i))
     ∙ made_it ∙ sym (ap {B = BlockBase} Blocks.erased_block (block_is base past named found.0)))
     (λ sb other. λ i. after sb (no_more_erase base past entry sb other i) (other i))
 
@@ -212,9 +205,6 @@ candidate_sound base past sb lt e =
     sealed_sound (is_bad_superblock base past sb) (is_picked base past sb) (slots_in base) (used_of base past sb)
     (subst (λ (block : BlockBase). States.is_sealed block.state ≡ true) (block_is base past sb lt) (candidate_sealed base past sb lt e))
 
-pub below : (a b : ℕ) → nat_lt a b ≡ true → a < b
-below a b e = grind (arith, nat_tests)
-
 blocks_step : (state : ℕ → LadderState) (base : ChannelBase) (past : List Entry) (tag : Tag) (kind : Kind) → is_in_range base.shape kind ≡ true → IsLawfulKind state base past tag kind
     → blocks_of base (made tag kind ∷ past) ≡ blocks_after (slots_in base) kind (blocks_of base past)
 blocks_step state base past tag (Kind.Write named slot) range c =
@@ -237,9 +227,17 @@ blocks_step state base past tag (Kind.BadCopy at slot die fault) range c =
     (first_holds (has_slot base.shape slot) (nat_lt die base.shape.dies) range) (λ sb. refl)
 blocks_step state base past tag (Kind.BadErase named die fault) range c = unerased_step base past tag named die fault c.may_erase.is_victim
 blocks_step state base past tag (Kind.Pick named) range c =
-    picked_step base past tag named (below named base.shape.superblocks range) (candidate_sound base past named (below named base.shape.superblocks range) c.is_candidate)
+    picked_step base past tag named (ltb-true named base.shape.superblocks range) (candidate_sound base past named (ltb-true named base.shape.superblocks range) c.is_candidate)
 blocks_step state base past tag (Kind.Erase named) range c = erased_step base past tag named c.may_erase.is_victim
 blocks_step state base past tag kind range c = refl
 
 pub blocks_after_entry : BlocksAfterEntry
 blocks_after_entry ladder base entry past lawful = blocks_step (ladder past) base past entry.tag entry.kind lawful.1.in_range lawful.1.meets
+
+-- the victim isn't the frontier, and neither is a sealed superblock
+pub victim_no_frontier : (state : SbState) → States.is_victim state ≡ true → States.is_frontier state ≡ false
+victim_no_frontier SbState.Victim e = refl
+victim_no_frontier SbState.Frontier e = cc
+victim_no_frontier SbState.Free e = refl
+victim_no_frontier SbState.Sealed e = refl
+victim_no_frontier SbState.Bad e = refl

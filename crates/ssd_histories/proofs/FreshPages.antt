@@ -162,12 +162,12 @@ pub two_dies : (start : Start) → 2 ≤ start.base.shape.dies
 two_dies start = omega (arith, start.base.shape.within.dies_low)
 
 -- a superblock that isn't bad wasn't before, and didn't turn bad
-bad_before : (a t r : Bool) → (a || (t || r)) ≡ false → (a || r) ≡ false
+pub bad_before : (a t r : Bool) → (a || (t || r)) ≡ false → (a || r) ≡ false
 bad_before true t r e = e
 bad_before false true r e = absurd (grind arith)
 bad_before false false r e = e
 
-turned_bad : (a t r : Bool) → (a || (t || r)) ≡ false → t ≡ false
+pub turned_bad : (a t r : Bool) → (a || (t || r)) ≡ false → t ≡ false
 turned_bad true t r e = absurd (grind arith)
 turned_bad false true r e = e
 turned_bad false false r e = refl
@@ -227,7 +227,7 @@ kept_fresh coding start contents past entry sb more slots parities h = record {
 }
 
 -- the next slot is the first unused one of its superblock, whichever of two equal superblocks is named
-next_here : (base : ChannelBase) (past : List Entry) (slot : Slot) (sb : ℕ) → next_slot base past ≡ Some slot → has_slot base.shape slot ≡ true → sb ≡ slot.sb → slot.index ≡ used_of base past sb
+pub next_here : (base : ChannelBase) (past : List Entry) (slot : Slot) (sb : ℕ) → next_slot base past ≡ Some slot → has_slot base.shape slot ≡ true → sb ≡ slot.sb → slot.index ≡ used_of base past sb
 next_here base past slot sb next range e =
     next_is_used base past slot next (slot_in_range base.shape slot range) ∙ ap {B = ℕ} (λ (n : ℕ). used_of base past n) (sym e)
 

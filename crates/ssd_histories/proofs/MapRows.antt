@@ -5,6 +5,8 @@ use Rattle.std.proofs.lemmas.Bool.Decides.{nat_tests}
 use Rattle.ssd_geo.specs.declared.row.Row.{Row}
 use Rattle.ssd_histories.specs.HistoryLaws.{RowsAfterEntry, rows_after}
 use Rattle.ssd_histories.specs.PastRows.{row_after, row_change, row_of}
+use Rattle.std.proofs.lemmas.Bool.{eq-eqb}
+use Rattle.shared_lemmas.proofs.Tests.{is_other_above, is_other}
 
 -- a row that a change isn't of keeps what it held
 other_row : (k r : ℕ) (x before : Row) → (k == r) ≡ false → row_after (Some (k, x)) r before ≡ before
@@ -13,15 +15,6 @@ other_row k r x before e = rw (e, row_after) refl
 -- the row that a change is of holds what it says
 same_row : (k r : ℕ) (x before : Row) → (k == r) ≡ true → row_after (Some (k, x)) r before ≡ x
 same_row k r x before e = rw (e, row_after) refl
-
-is_other : (k r : ℕ) → k < r → (k == r) ≡ false
-is_other k r h = grind (arith, nat_tests)
-
-is_other_above : (k r : ℕ) → r < k → (k == r) ≡ false
-is_other_above k r h = grind (arith, nat_tests)
-
-is_same : (k r : ℕ) → k ≡ r → (k == r) ≡ true
-is_same k r h = grind (arith, nat_tests)
 
 -- rows above the changed one keep what they held
 rows_above : (f : ℕ → Row) (k : ℕ) (x : Row) (a n : ℕ) → k < a
@@ -35,7 +28,7 @@ rows_changed : (f : ℕ → Row) (k : ℕ) (x : Row) (a i n : ℕ) → k ≡ a +
     → map (λ r. row_after (Some (k, x)) r (f r)) (range_with_len a n) ≡ set (map f (range_with_len a n)) i x
 rows_changed f k x a i zero h = refl
 rows_changed f k x a zero (suc n) h =
-    rw (same_row k a x (f a) (is_same k a (omega arith)), rows_above f k x (a + 1) n (omega arith)) refl
+    rw (same_row k a x (f a) (eq-eqb k a (omega arith)), rows_above f k x (a + 1) n (omega arith)) refl
 rows_changed f k x a (suc i) (suc n) h =
     rw (other_row k a x (f a) (is_other_above k a (omega arith)), rows_changed f k x (a + 1) i n (omega arith)) refl
 

@@ -24,6 +24,8 @@ use Rattle.ssd_histories.specs.States as States
 use Rattle.ssd_histories.specs.States.{is_frontier, is_victim}
 use Rattle.ssd_histories.proofs.PinnedWords.{slot_block}
 use Rattle.ssd_histories.proofs.UsedSlots.{block_is, made, of_some, second_holds}
+use Rattle.std.proofs.lemmas.Bool.{eqb-true}
+use Rattle.std.proofs.lemmas.Option.{same_Some}
 
 -- what stands before the first item that passes a test doesn't
 before_first : {X : Type 0} (p : X → Bool) (xs : List X) (i : ℕ) (d : X) → i < prefix_len (λ x. not (p x)) xs → p (get_or xs i d) ≡ false
@@ -84,7 +86,7 @@ not_frontier_empty false true slots e = grind arith
 not_frontier_empty false false slots e = grind arith
 
 -- whether one of some tests turns a superblock bad
-frontier_turned : (a r picked : Bool) (slots used : ℕ) → is_frontier (state_by (a || (true || r)) picked slots used) ≡ true → ⊥
+pub frontier_turned : (a r picked : Bool) (slots used : ℕ) → is_frontier (state_by (a || (true || r)) picked slots used) ≡ true → ⊥
 frontier_turned true r picked slots used e = not_frontier_bad picked slots used e
 frontier_turned false r picked slots used e = not_frontier_bad picked slots used e
 
@@ -95,13 +97,10 @@ record IsNextIn (base : ChannelBase) (past : List Entry) (sb : ℕ) : Type 0 whe
   range : has_slot base.shape slot ≡ true
   here : slot.sb ≡ sb
 
-same_number : (a b : ℕ) → (a == b) ≡ true → a ≡ b
-same_number a b e = grind (arith, nat_tests)
-
 -- a frontier after a program was one before, or has the slot
 programmed_frontier : (base : ChannelBase) (past : List Entry) (sb : ℕ) (slot : Slot) (bad picked : Bool) (slots used : ℕ) (b : Bool) → (slot.sb == sb) ≡ b → next_slot base past ≡ Some slot → has_slot base.shape slot ≡ true
     → is_frontier (state_by bad picked slots (if b then used + 1 else used)) ≡ true → (is_frontier (state_by bad picked slots used) ≡ true) ⊎ IsNextIn base past sb
-programmed_frontier base past sb slot bad picked slots used true e next range h = inr (record { slot = slot; next = next; range = range; here = same_number slot.sb sb e })
+programmed_frontier base past sb slot bad picked slots used true e next range h = inr (record { slot = slot; next = next; range = range; here = eqb-true slot.sb sb e })
 programmed_frontier base past sb slot bad picked slots used false e next range h = inl h
 
 retired_frontier : (a r picked : Bool) (slots used : ℕ) (b : Bool) → is_frontier (state_by (a || (b || r)) picked slots used) ≡ true → is_frontier (state_by (a || r) picked slots used) ≡ true
@@ -148,9 +147,6 @@ frontier_from state base past tag (Kind.Erase named) range c sb h =
     inl (erased_frontier (is_bad_superblock base past sb) (is_picked base past sb) (slots_in base) (used_of base past sb) (named == sb) h)
 frontier_from state base past tag kind range c sb h = inl h
 
-some_number : (a b : ℕ) → ◌≡◌ {A = Option ℕ} (Some a) (Some b) → a ≡ b
-some_number a b e = ap {B = ℕ} (λ (o : Option ℕ). unwrap_or o a) e
-
 -- where there is a frontier, the next slot is in it
 frontier_is_next : (base : ChannelBase) (past : List Entry) (sb : ℕ) → AtMostOne is_frontier base past → IsNextIn base past sb → (b : ℕ) → b < base.shape.superblocks → is_frontier (state_of base past b) ≡ true → sb ≡ b
 frontier_is_next base past sb one next b lt h =
@@ -163,7 +159,7 @@ frontier_is_next base past sb one next b lt h =
         let found : (k < base.shape.superblocks) × (is_frontier (state_of base past k) ≡ true) = found_block base past Blocks.is_frontier_block k e in
         let first : ◌≡◌ {A = Option ℕ} (Some k) (Some next.slot.sb) =
         ap {B = Option ℕ} (λ (o : Option ℕ). Blocks.first_some o (Blocks.freshest_of (blocks_of base past))) (sym e) ∙ there in
-        sym next.here ∙ sym (some_number k next.slot.sb first) ∙ one k b found.0 lt found.1 h
+        sym next.here ∙ sym (same_Some k next.slot.sb first) ∙ one k b found.0 lt found.1 h
 
 one_next : (base : ChannelBase) (past : List Entry) (a b : ℕ) → IsNextIn base past a → IsNextIn base past b → a ≡ b
 one_next base past a b first second =
@@ -221,7 +217,7 @@ Picks kind sb = ⊥
 
 picked_victim : (bad picked : Bool) (slots used named sb : ℕ) (b : Bool) → (named == sb) ≡ b → is_victim (state_by bad (if b then true else picked) slots used) ≡ true
     → (is_victim (state_by bad picked slots used) ≡ true) ⊎ (named ≡ sb)
-picked_victim bad picked slots used named sb true e h = inr (same_number named sb e)
+picked_victim bad picked slots used named sb true e h = inr (eqb-true named sb e)
 picked_victim bad picked slots used named sb false e h = inl h
 
 -- a victim after an entry was one before, or was picked by it

@@ -34,6 +34,7 @@ use Rattle.ssd_histories.proofs.FreshPages.{IsFreshAbove, IsKept, failed_elsewhe
 use Rattle.ssd_histories.proofs.OpenLookLaws.{all_left}
 use Rattle.ssd_histories.proofs.RewrittenRows.{all_by_two, erases_spare_looks}
 use Rattle.ssd_histories.proofs.UsedSlots.{Keeps, block_is, first_holds, made, next_is_used, of_some, second_holds, slot_in_range, used_kept}
+use Rattle.std.proofs.lemmas.Bool.{or_left, or_right}
 
 -- the next slot's superblock, among all of them
 pub slot_block : (blocks : List BlockBase) (o : Option ℕ) (slot : Slot) → Blocks.slot_in blocks o ≡ Some slot → o ≡ Some slot.sb
@@ -50,26 +51,18 @@ usable_is_sound : (bad picked : Bool) (slots used : ℕ) → (States.is_frontier
 usable_is_sound true picked slots used e = absurd (grind arith)
 usable_is_sound false picked slots used e = refl
 
-either_first : (a b : Bool) → a ≡ true → (a || b) ≡ true
-either_first true b e = refl
-either_first false b e = absurd (grind arith)
-
-either_second : (a b : Bool) → b ≡ true → (a || b) ≡ true
-either_second true b e = refl
-either_second false b e = e
-
 -- the superblock of the next slot is the frontier or free
 abbrev IsUsable : List BlockBase → Option ℕ → Type 0
 IsUsable blocks o = (sb : ℕ) → o ≡ Some sb → (States.is_frontier (Blocks.block_at blocks sb).state || States.is_free (Blocks.block_at blocks sb).state) ≡ true
 
 frontier_usable : (blocks : List BlockBase) → IsUsable blocks (Blocks.frontier_of blocks)
 frontier_usable blocks sb e =
-    either_first (States.is_frontier (Blocks.block_at blocks sb).state) (States.is_free (Blocks.block_at blocks sb).state)
+    or_left (States.is_frontier (Blocks.block_at blocks sb).state) (States.is_free (Blocks.block_at blocks sb).state)
     (position-Some Blocks.is_frontier_block blocks sb Blocks.blank_block e).1
 
 freshest_usable : (blocks : List BlockBase) → IsUsable blocks (Blocks.freshest_of blocks)
 freshest_usable blocks sb e =
-    either_second (States.is_frontier (Blocks.block_at blocks sb).state) (States.is_free (Blocks.block_at blocks sb).state)
+    or_right (States.is_frontier (Blocks.block_at blocks sb).state) (States.is_free (Blocks.block_at blocks sb).state)
     (first_holds (States.is_free (Blocks.block_at blocks sb).state) (list_all (Blocks.is_no_fresher (Blocks.block_at blocks sb)) blocks)
     (position-Some (Blocks.is_freshest blocks) blocks sb Blocks.blank_block e).1)
 
@@ -215,7 +208,7 @@ past_now entry past = ap {B = List Entry} (λ (k : ℕ). drop k (entry ∷ past)
     one n = omega arith
 
 -- an entry that doesn't erase a superblock keeps its used slots
-spared_keeps : (sb : ℕ) (kind : Kind) → is_erase_or_bad_erase_of sb kind ≡ false → Keeps sb kind
+pub spared_keeps : (sb : ℕ) (kind : Kind) → is_erase_or_bad_erase_of sb kind ≡ false → Keeps sb kind
 spared_keeps sb (Kind.Erase named) e = e
 spared_keeps sb (Kind.BadErase named die fault) e = e
 spared_keeps sb kind e = tt

@@ -14,7 +14,8 @@ use Rattle.ssd_histories.specs.PastBlocks.{block_of, blocks_of, slots_in}
 use Rattle.ssd_histories.specs.Reserve.{PicksLeaveReserve, ReserveIsNotWorn, fits_into_frontier}
 use Rattle.ssd_histories.specs.Room.{count_of_free, live_of, victim_of}
 use Rattle.ssd_histories.specs.States as States
-use Rattle.ssd_histories.proofs.BlockSteps.{below, blocks_after_entry, candidate_sealed}
+use Rattle.ssd_histories.proofs.BlockSteps.{blocks_after_entry, candidate_sealed}
+use Rattle.std.proofs.lemmas.Bool.{ltb-true}
 
 not_worn : (free left : ℕ) (live : ℕ → ℕ) (o : Option ℕ) → (nat_le 1 free || elim o [ Some sb ↦ nat_le (live sb) left | None ↦ false ]) ≡ true
     → (free == 0 && (is_none o || nat_lt left (elim o [ Some sb ↦ live sb | None ↦ 0 ]))) ≡ false
@@ -28,7 +29,7 @@ pub reserve_is_not_worn : ReserveIsNotWorn
 reserve_is_not_worn base past e =
     not_worn (count_of_free base past) (Blocks.slots_left (slots_in base) (blocks_of base past)) (live_of base past) (victim_of base past) e
 
-sealed_isnt_free : (state : SbState) → States.is_sealed state ≡ true → States.is_free state ≡ false
+pub sealed_isnt_free : (state : SbState) → States.is_sealed state ≡ true → States.is_free state ≡ false
 sealed_isnt_free SbState.Free e = absurd (grind arith)
 sealed_isnt_free SbState.Frontier e = refl
 sealed_isnt_free SbState.Sealed e = refl
@@ -51,7 +52,7 @@ pub picks_leave_reserve : PicksLeaveReserve
 picks_leave_reserve ladder base tag sb past lawful =
     let entry : Entry = record { tag = tag; kind = Kind.Pick sb } in
     let c : IsLawfulPick base past sb = lawful.1.meets in
-    let lt : sb < base.shape.superblocks = below sb base.shape.superblocks lawful.1.in_range in
+    let lt : sb < base.shape.superblocks = ltb-true sb base.shape.superblocks lawful.1.in_range in
     let sealed : States.is_sealed (Blocks.block_at (blocks_of base past) sb).state ≡ true = candidate_sealed base past sb lt c.is_candidate in
     let after : blocks_of base (entry ∷ past) ≡ Blocks.with_victim (blocks_of base past) sb = blocks_after_entry ladder base entry past lawful in
     let same : count_of_free base (entry ∷ past) ≡ count_of_free base past =

@@ -12,8 +12,10 @@ use Rattle.ssd_geo.specs.declared.kind.Kind.{Kind}
 use Rattle.ssd_geo.specs.declared.look.Look.{Look}
 use Rattle.ssd_geo.specs.declared.row.Row.{Row}
 use Rattle.ssd_geo.specs.declared.slot.Slot.{Slot}
+use Rattle.ssd_geo.specs.declared.superblock.SbState.{SbState}
 use Rattle.ssd_geo.specs.declared.tag.Tag.{Tag}
 use Rattle.ssd_histories.specs.Blocks as Blocks
+use Rattle.ssd_histories.specs.Blocks.{has_due_used}
 use Rattle.ssd_histories.specs.History.{look_of, open_look}
 use Rattle.ssd_geo.specs.Ladder.{LadderState}
 use Rattle.ssd_histories.specs.Lawful.{IsLawfulKind, IsLawfulMove}
@@ -24,6 +26,14 @@ use Rattle.ssd_geo.specs.declared.shape.Shape.{Shape}
 use Rattle.ssd_histories.specs.PastBlocks.{block_of, blocks_of, used_after, used_of}
 use Rattle.ssd_histories.specs.PastRows.{row_after, row_of, serial_of}
 use Rattle.ssd_histories.specs.Room.{live_of, next_slot}
+
+-- no superblock has more slots used than it has
+pub due_used : (slots : ℕ) (state : SbState) (used : ℕ) → has_due_used slots state used ≡ true → used ≤ slots
+due_used slots SbState.Free used e = grind (arith, nat_tests)
+due_used slots SbState.Frontier used e = grind (arith, nat_tests)
+due_used slots SbState.Sealed used e = grind (arith, nat_tests)
+due_used slots SbState.Bad used e = grind (arith, nat_tests)
+due_used slots SbState.Victim used e = grind (arith, nat_tests)
 
 -- an entry doesn't erase a superblock
 abbrev pub Keeps : ℕ → Kind → Type 0
@@ -65,7 +75,7 @@ next_is_used base past slot e h =
     ap {B = ℕ} (λ (block : BlockBase). block.used) (block_is base past slot.sb h) in
     some_slot (blocks_of base past) (Blocks.next_superblock (blocks_of base past)) slot e ∙ used
 
-other_block : (sb erased : ℕ) → (sb == erased) ≡ false → (erased == sb) ≡ false
+pub other_block : (sb erased : ℕ) → (sb == erased) ≡ false → (erased == sb) ≡ false
 other_block sb erased e = grind (arith, nat_tests)
 
 -- a row that names a used slot still does where no fewer slots of its superblock are used

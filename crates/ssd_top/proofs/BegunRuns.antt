@@ -20,7 +20,6 @@ use Rattle.run_laws.specs.Serials.{HasSmallSerials}
 use Rattle.run_laws.specs.ServedRuns.{AreStartsOf, BeginsAs, HasLedTo, contents_in}
 use Rattle.run_laws.specs.Starts.{Handed, start_of, starts_from, starts_of}
 use Rattle.run_laws.proofs.ServedCalls.{served_runs_begin}
-use Rattle.serial_laws.proofs.Lists.{all_at}
 use Rattle.ssd_formats.specs.ImageContents.{ChannelImage, IsBaseOf, IsSaved}
 use Rattle.ssd_formats.specs.ImageHead.{Head, head_of, matrix_of_head}
 use Rattle.ssd_geo.specs.Coding.{matrix_of}
@@ -38,6 +37,7 @@ use Rattle.ssd_top.proofs.FittingTraces.{are_numbered, fit_drive, have_data}
 use Rattle.ssd_top.specs.Forms.{input_of, saved_channels}
 use Rattle.ssd_top.specs.Running.{HasFoundRoom, IsRunning, Job}
 use Rattle.ssd_top.specs.Workers.{IsWorkerOf}
+use Rattle.shared_lemmas.proofs.Lists.{all_at}
 
 -- what holds of the start of each of so many channels, from a number on
 module _ (shape : Shape) (head : Head) (limit : ℕ) (saved : ℕ → ChannelImage) (handed : ℕ → Handed) where

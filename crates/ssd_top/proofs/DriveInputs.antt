@@ -10,10 +10,7 @@ use Rattle.ssd_formats.specs.Statuses.{image, trace}
 use Rattle.ssd_formats.specs.TraceText.{read_trace}
 use Rattle.ssd_geo.specs.declared.trace.Trace.{Trace}
 use Rattle.ssd_formats.proofs.FieldLaws.{goes_on}
-
--- a fault stays
-stays : {A B F : Type 0} (read : Result A F) (fault : F) (next : A → Result B F) → read ≡ Err fault → (read >>= next) ≡ Err fault
-stays read fault next e = rw e refl
+use Rattle.ssd_formats.proofs.LineLaws.{stays_err}
 
 -- an image is its head and what is read of its channels
 pub image_read : (bytes : List ℕ) (head : Head) (rest left : Rest) (channels : List ChannelImage) → read_head bytes ≡ Ok (head, rest)
@@ -41,14 +38,14 @@ unfolding read_input
 trace_fault_input bytes head rest left channels line fault read contents told =
     goes_on _ _ _
     (ap (λ (reading : Reading (Head × List ChannelImage)). at_image reading) (image_read bytes head rest left channels read contents))
-    ∙ stays _ _ _ (ap (λ (reading : Result Trace (ℕ × TraceFault)). at_trace reading) told)
+    ∙ stays_err _ _ _ (ap (λ (reading : Result Trace (ℕ × TraceFault)). at_trace reading) told)
 
 -- a fault of the contents is the image's
 contents_fault_image : (bytes : List ℕ) (head : Head) (rest : Rest) (at : ℕ) (fault : ImageFault)
     → read_head bytes ≡ Ok (head, rest) → read_channels head head.sizes.channels [] rest ≡ Err (at, fault)
     → read_image bytes ≡ Err (at, fault)
 unfolding read_image
-contents_fault_image bytes head rest at fault read contents = goes_on _ _ _ read ∙ stays _ _ _ contents
+contents_fault_image bytes head rest at fault read contents = goes_on _ _ _ read ∙ stays_err _ _ _ contents
 
 -- and the input's
 pub contents_fault_input : (bytes : List ℕ) (head : Head) (rest : Rest) (at : ℕ) (fault : ImageFault)
@@ -56,7 +53,7 @@ pub contents_fault_input : (bytes : List ℕ) (head : Head) (rest : Rest) (at : 
     → read_input bytes ≡ Err (image at fault)
 unfolding read_input
 contents_fault_input bytes head rest at fault read contents =
-    stays _ _ _
+    stays_err _ _ _
     (ap (λ (reading : Reading (Head × List ChannelImage)). at_image reading)
     (contents_fault_image bytes head rest at fault read contents))
 
@@ -64,11 +61,11 @@ contents_fault_input bytes head rest at fault read contents =
 pub head_fault_image : (bytes : List ℕ) (at : ℕ) (fault : ImageFault) → read_head bytes ≡ Err (at, fault) →
     read_image bytes ≡ Err (at, fault)
 unfolding read_image
-head_fault_image bytes at fault read = stays _ _ _ read
+head_fault_image bytes at fault read = stays_err _ _ _ read
 
 -- and the input's
 pub head_fault_input : (bytes : List ℕ) (at : ℕ) (fault : ImageFault) → read_head bytes ≡ Err (at, fault) →
     read_input bytes ≡ Err (image at fault)
 unfolding read_input
 head_fault_input bytes at fault read =
-    stays _ _ _ (ap (λ (reading : Reading (Head × List ChannelImage)). at_image reading) (head_fault_image bytes at fault read))
+    stays_err _ _ _ (ap (λ (reading : Reading (Head × List ChannelImage)). at_image reading) (head_fault_image bytes at fault read))

@@ -7,6 +7,7 @@ use Rattle.std.proofs.lemmas.List.Elements.{All-head, All-tail}
 use Rattle.std.proofs.lemmas.Option.{get_or_from_slice_get, slice_get-map, slice_get_within}
 use Rattle.std.specs.Prelude.{All, flat_map, option_map, slice_get}
 use Rattle.ssd_histories.specs.Standing.{count_at}
+use Rattle.drive_contents.proofs.Pieces.{is_behind}
 
 -- what stands in one list behind another stands in the first or, so much further on, in the second
 record IsBehind {A : Type 0} (xs ys : List A) (number : ℕ) (item : A) : Type 0 where
@@ -27,15 +28,6 @@ front_or_behind (x ∷ xs) ys (suc number) item is =
         has_item = behind.has_item;
       })
     ]
-
--- what stands in a list without its first items stands in the list so much further on
-get_dropped : {A : Type 0} (count : ℕ) (xs : List A) (place : ℕ)
-    → slice_get (drop count xs) place ≡ slice_get xs (count + place)
-get_dropped zero xs place = ap (slice_get xs) (omega arith)
-get_dropped (suc count) [] place = refl
-get_dropped (suc count) (x ∷ xs) place =
-    let next : suc (count + place) ≡ suc count + place = omega arith in
-    get_dropped count xs place ∙ ap (slice_get (x ∷ xs)) next
 
 -- counts of which a part is taken: the one with this number in the part
 pub count_in_part : {A : Type 0} (of : A → ℕ) (all : List A) (from count place : ℕ) (item : A) → place < count
@@ -148,7 +140,7 @@ module _ {X A : Type 0} (piece_of : X → List A) (count : ℕ) where
             | inl front ↦ inl (in_piece xs number new whole front)
             | inr behind ↦
                 let there : slice_get olds (length xs * count + behind.place) ≡ Some new =
-                sym (get_dropped (length xs * count) olds behind.place) ∙ behind.has_item in
+                sym (is_behind (length xs * count) olds behind.place) ∙ behind.has_item in
                 let same : number ≡ length xs * count + behind.place =
                 behind.number_is ∙ ap (λ (n : ℕ). n + behind.place) (length_of_pieces xs whole) in
                 let here : slice_get olds (length xs * count + behind.place) ≡ Some old =

@@ -13,7 +13,7 @@ use Rattle.run_laws.proofs.TaggedData.{tags_give_data}
 use Rattle.run_laws.specs.SerialRuns.{with_reply}
 use Rattle.run_laws.specs.ServedRuns.{contents_in, dropped_after, served_with}
 use Rattle.serial_laws.proofs.LeftLooks.{serial_calls_leave_looks}
-use Rattle.serial_laws.proofs.Lists.{IsItemAt, all_at, item_at}
+use Rattle.serial_laws.proofs.Lists.{IsItemAt, item_at}
 use Rattle.ssd_formats.specs.TraceText.{content_bytes, contents_of}
 use Rattle.ssd_geo.specs.Limits.{Sizes}
 use Rattle.ssd_geo.specs.declared.entry.Entry.{Entry}
@@ -28,6 +28,7 @@ use Rattle.ssd_histories.specs.HistoryRoom.{found_room}
 use Rattle.ssd_histories.specs.SerialHistory.{SerialState}
 use Rattle.ssd_histories.specs.Start.{data_of}
 use Rattle.ssd_top.specs.Running.{HasFoundRoom, HasStopped, HaveFoundRoom, IsRunning, Job}
+use Rattle.shared_lemmas.proofs.Lists.{all_at}
 
 -- the past of a channel
 abbrev past_in : SeenChannel → List Entry

@@ -18,11 +18,6 @@ zeros_small (suc n) = (omega arith, zeros_small n)
 pub padded_small : (listed : List ℕ) (n : ℕ) → AreSmall listed → AreSmall (listed ++ replicate n 0)
 padded_small listed n small = append_small listed (replicate n 0) small (zeros_small n)
 
-pub small_anywhere : (bytes : List ℕ) → AreSmall bytes → (i : ℕ) → get_or bytes i 0 < 256
-small_anywhere [] small i = omega arith
-small_anywhere (byte ∷ bytes) small zero = small.0
-small_anywhere (byte ∷ bytes) small (suc i) = small_anywhere bytes small.1 i
-
 -- the head of any serial and row has small bytes
 head_small : (serial row : ℕ) → AreSmall (head_of_page serial row)
 head_small serial row =

@@ -132,7 +132,14 @@ fn serve<D: Die, P: Policy>(
         return out_of_memory(left);
     };
     let answered = serve_trace(alloc, &mut worker, &mut channels, trace);
-    let Ok(Ended { dies, histories }) = end_channels(alloc, channels, left) else {
+    let Ok(
+        Ended {
+            dies,
+            histories,
+            ..
+        },
+    ) = end_channels(alloc, channels, left)
+    else {
         return out_of_memory(Vec::new(alloc));
     };
     let outcome = match answered {

@@ -7,19 +7,13 @@ use Rattle.ssd_formats.specs.InputFaults.{form}
 use Rattle.ssd_formats.specs.Lines.{is_space, words_in}
 use Rattle.ssd_formats.specs.Numbers.{Text}
 use Rattle.trace_text.specs.WordsLeft.{only_word}
-
-place_of : (b : Bool) (m n : ℕ) → cond b (Some m) None ≡ Some n → (b ≡ true) × (m ≡ n)
-place_of true m n e = (refl, cc)
-place_of false m n e = absurd (cc)
-
-no_place : (b : Bool) (m : ℕ) → cond b (Some m) None ≡ None → b ≡ false
-no_place true m e = absurd (cc)
-no_place false m e = refl
+use Rattle.std.proofs.lemmas.Option.{cond_some}
+use Rattle.shared_lemmas.proofs.Tests.{not_passed}
 
 -- the first part ends there, and the others are those of what stands behind
 pub cut_at_first : (p : ℕ → Bool) (xs : List ℕ) (at : ℕ) → position p xs ≡ Some at → slice_split p xs ≡ take at xs ∷ slice_split p (drop (at + 1) xs)
 cut_at_first p xs at e =
-    let both = place_of (nat_lt (position_or_len p xs) (length xs)) (position_or_len p xs) at e in
+    let both = cond_some (nat_lt (position_or_len p xs) (length xs)) (position_or_len p xs) at e in
     let inside : position_or_len p xs < length xs = let b = both.0 in grind (arith, common_steps) in
     slice_split_first p xs 0 inside ∙ ap (λ n. take n xs ∷ slice_split p (drop (n + 1) xs)) both.1
 
@@ -37,7 +31,7 @@ none_passes p (x ∷ xs) h = none_step p x xs (p x) refl h (none_passes p xs)
 -- where no element passes, all is one part
 pub cut_nowhere : (p : ℕ → Bool) (xs : List ℕ) → position p xs ≡ None → slice_split p xs ≡ xs ∷ []
 cut_nowhere p xs e =
-    let no = no_place (nat_lt (position_or_len p xs) (length xs)) (position_or_len p xs) e in
+    let no = not_passed (nat_lt (position_or_len p xs) (length xs)) (position_or_len p xs) e in
     let outside : length xs ≤ position_or_len p xs = grind (arith, common_steps) in none_passes p xs outside
 
 two_words : (word : Text) (words : List Text) → 0 < length words → only_word (word ∷ words) ≡ Err form

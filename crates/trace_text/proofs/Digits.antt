@@ -7,8 +7,8 @@ use Rattle.std.specs.Str.Parse.{digits_value, digits_value_after}
 use Rattle.std.proofs.lemmas.Grind.{common_steps}
 use Rattle.std.proofs.lemmas.Bool.Decides.{nat_tests}
 use Rattle.std.proofs.lemmas.Int.Digits.{digits_value_more}
-use Rattle.trace_text.proofs.Results.{both_true}
 use Rattle.trace_text.specs.Spelled.{fitting}
+use Rattle.std.proofs.lemmas.Bool.{and_parts}
 
 pub digits_are_all : (word : List ℕ) → list_all is_ascii_digit word ≡ all_ascii_digits word
 digits_are_all [] = refl
@@ -16,8 +16,8 @@ digits_are_all (c ∷ cs) = ap (λ b. is_ascii_digit c && b) (digits_are_all cs)
 
 pub digit_at : (ds : List ℕ) (i : ℕ) → all_ascii_digits ds ≡ true → i < length ds → is_ascii_digit (get_or ds i 0) ≡ true
 digit_at [] i all h = absurd (omega (arith, h))
-digit_at (c ∷ cs) zero all h = (both_true (is_ascii_digit c) (all_ascii_digits cs) all).0
-digit_at (c ∷ cs) (suc i) all h = digit_at cs i (both_true (is_ascii_digit c) (all_ascii_digits cs) all).1 (omega (arith, h))
+digit_at (c ∷ cs) zero all h = (and_parts (is_ascii_digit c) (all_ascii_digits cs) all).0
+digit_at (c ∷ cs) (suc i) all h = digit_at cs i (and_parts (is_ascii_digit c) (all_ascii_digits cs) all).1 (omega (arith, h))
 
 pub digit_is_within : (d : ℕ) → is_ascii_digit d ≡ true → (48 ≤ d) × (d ≤ 57)
 digit_is_within d e = grind (arith, common_steps)

@@ -6,7 +6,7 @@ use Rattle.std.proofs.lemmas.List.{get_or-drop, get_or-take}
 use Rattle.std.proofs.lemmas.Grind.{common_steps}
 use Rattle.std.proofs.lemmas.List.Elements.{All-append, All-cons, All-nil, All-from_get_or}
 use Rattle.std.proofs.lemmas.List.Quantifiers.{position-Some}
-use Rattle.trace_text.proofs.Results.{not_passed}
+use Rattle.shared_lemmas.proofs.Tests.{not_passed}
 
 -- no element passes
 abbrev pub NonePasses : (ℕ → Bool) → List ℕ → Type 0

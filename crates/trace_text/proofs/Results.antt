@@ -6,11 +6,6 @@ use Rattle.ssd_geo.specs.Limits.{is_within}
 use Rattle.std.proofs.lemmas.Grind.{common_steps}
 use Rattle.std.proofs.Common.{arith}
 
--- a value comes of a first step's value
-pub came_from : {A B F : Type 0} (first : Result A F) (next : A → Result B F) (value : B) → (first >>= next) ≡ Ok value → (x : A) × (first ≡ Ok x) × (next x ≡ Ok value)
-came_from (Ok x) next value e = (x, refl, e)
-came_from (Err fault) next value e = absurd (cc)
-
 -- the same of options
 pub then_from : {A B : Type 0} (first : Option A) (next : A → Option B) (value : B) → option_and_then next first ≡ Some value → (x : A) × (first ≡ Some x) × (next x ≡ Some value)
 then_from (Some x) next value e = (x, refl, e)
@@ -26,20 +21,7 @@ pub some_from : {A F : Type 0} (found : Option A) (fault : F) (value : A) → ok
 some_from (Some x) fault value e = cc
 some_from None fault value e = absurd (cc)
 
--- a value that passed a test
-pub passed_by : {A : Type 0} (b : Bool) (x y : A) → cond b (Some x) None ≡ Some y → (b ≡ true) × (x ≡ y)
-passed_by true x y e = (refl, cc)
-passed_by false x y e = absurd (cc)
-
 -- a choice
 pub chosen : {A : Type 0} {Q : Type 0} (b : Bool) (x y z : A) → (x ≡ z → Q) → (y ≡ z → Q) → cond b x y ≡ z → Q
 chosen true x y z f g e = f e
 chosen false x y z f g e = g e
-
-pub both_true : (a b : Bool) → (a && b) ≡ true → (a ≡ true) × (b ≡ true)
-both_true true b e = (refl, e)
-both_true false b e = absurd (cc)
-
-pub not_passed : (b : Bool) (m : ℕ) → cond b (Some m) None ≡ None → b ≡ false
-not_passed true m e = absurd (cc)
-not_passed false m e = refl

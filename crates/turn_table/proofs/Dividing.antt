@@ -15,14 +15,7 @@ use Rattle.turn_table.specs.declared.view.View.{View}
 use Rattle.turn_table.proofs.Lists.{none_above, none_before}
 use Rattle.turn_table.proofs.Numbers.{has_one}
 use Rattle.turn_table.proofs.Seats.{each_set, reseated, still_home}
-
--- what stands in a longer list stands in the list or is the last
-last_or_before : {A : Type 0} (l : List A) (a b : A) (j : ℕ) → get_elem? (l ++ a ∷ []) j ≡ some b → (get_elem? l j ≡ some b) ⊎ ((j ≡ length l) × (a ≡ b))
-last_or_before [] a b zero e = inr (refl, some-injective a b e)
-last_or_before [] a b (suc j) e = absurd (some-ne-none b (sym e))
-last_or_before (x ∷ xs) a b zero e = inl e
-last_or_before {A} (x ∷ xs) a b (suc j) e =
-    ⊎_elim (λ (t : get_elem? xs j ≡ some b). inl t) (λ (t : (j ≡ length xs) × (a ≡ b)). inr (ap suc t.0, t.1)) (last_or_before xs a b j e)
+use Rattle.shared_lemmas.proofs.Lists.{last_or_before}
 
 -- a number that a seat gives away
 record IsGiven (now : Standing) (id : ℕ) (view : View) (given : ℕ) : Type 0 where

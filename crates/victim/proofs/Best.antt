@@ -8,6 +8,7 @@ use Rattle.std.proofs.lemmas.List.Sums.{position_or_len_is, sum_by-cons, sum_by_
 use Rattle.ssd_histories.specs.Policies.{count_of_candidates, default_victim_of, has_most_garbage, has_no_more_garbage, is_candidate, is_candidate_at, no_info}
 use Rattle.ssd_geo.specs.declared.superblock.SbInfo.{SbInfo}
 use Rattle.victim.specs.First.{beats, best_with, garbage_at}
+use Rattle.shared_lemmas.proofs.Positions.{all_from, not_placed, placed}
 
 -- what is known of the superblock with this number
 abbrev info_at : List SbInfo → ℕ → SbInfo
@@ -20,19 +21,6 @@ IsBest table i (Some b) =
     (b < i) × (is_candidate_at table b ≡ true)
     × ((k : ℕ) → k < i → is_candidate_at table k ≡ true → garbage_at table k ≤ garbage_at table b)
     × ((k : ℕ) → k < b → is_candidate_at table k ≡ true → garbage_at table k < garbage_at table b)
-
-all_from : {X : Type 0} (p : X → Bool) (xs : List X) (d : X) → ((k : ℕ) → k < length xs → p (get_or xs k d) ≡ true)
-    → list_all p xs ≡ true
-all_from p [] d each = refl
-all_from p (x ∷ xs) d each =
-    and_from (p x) (list_all p xs) (each zero (omega arith)) (all_from p xs d (λ k lt. each (suc k) (omega arith)))
-
-placed : {X : Type 0} (p : X → Bool) (xs : List X) (i : ℕ) → position_or_len p xs ≡ i → i < length xs
-    → position p xs ≡ Some i
-placed p xs i e lt = grind (arith, e, lt)
-
-not_placed : {X : Type 0} (p : X → Bool) (xs : List X) → position_or_len p xs ≡ length xs → position p xs ≡ None
-not_placed p xs e = grind (arith, e)
 
 -- one more that is no candidate changes nothing
 best_kept : (table : List SbInfo) (i : ℕ) (best : Option ℕ) → IsBest table i best → is_candidate_at table i ≡ false

@@ -7,15 +7,12 @@ use Rattle.std.proofs.lemmas.List.Folds.{list_any-append}
 use Rattle.std.proofs.lemmas.List.Sums.{count_by-le-length, length-filter, sum_by-set}
 use Rattle.ssd_histories.specs.Policies.{moved_to_end}
 use Rattle.victim.specs.Listed.{AreListed}
+use Rattle.shared_lemmas.proofs.Lists.{no_mark}
+use Rattle.shared_lemmas.proofs.Tests.{or_false}
 
 -- whether a number isn't this one
 abbrev pub is_other : ℕ → ℕ → Bool
 is_other sb other = not (other == sb)
-
-no_mark : (n sb : ℕ) → get_or (replicate n false) sb false ≡ false
-no_mark zero sb = refl
-no_mark (suc n) zero = refl
-no_mark (suc n) (suc sb) = no_mark n sb
 
 pub listed_none : AreListed [] 0 (replicate 256 false)
 listed_none = record { len_is = refl; marks_len = refl; few = omega arith; marked = λ sb. no_mark 256 sb }
@@ -60,11 +57,6 @@ room_by list len sb marks false is_mark listed lt =
     let in_marks : sb < length marks = omega (arith, listed.marks_len) in
     let after = rw is_mark at (sum_by-set (λ m. cond m 1 0) marks sb true false in_marks) in
     omega (arith, after, length-filter (is_other sb) list, count_by-le-length (is_other sb) list, listed.len_is, listed.few)
-
--- whether a number stands in the list after a superblock was moved to its end
-or_false : (b : Bool) → (b || false) ≡ b
-or_false true = refl
-or_false false = refl
 
 or_true : (b : Bool) → (b || true) ≡ true
 or_true true = refl

@@ -33,6 +33,7 @@ use Rattle.collector.specs.declared.replies.RoundReply.TheVariants as round
 use Rattle.collector.specs.declared.replies.WriteReply.{WriteReply}
 use Rattle.collector.proofs.GrownPasts.{Grows, comes_grows, ends_write_grow, is_same, lawful_within, over, picked_grows, writes_on_grow, writing_grows}
 use Rattle.write_rounds.specs.AloneRounds.{AloneWritesMakeFewRounds, AloneWritesMakeTwoMore, rounds_made, rounds_of_last, rounds_of_turn, rounds_of_turns}
+use Rattle.collector.proofs.AloneWrites.{faultless_so}
 
 -- a step that was refused leaves a past that grew
 stopped_grows : {A : Type 0} (has_room : ℕ → List Entry → Type 0) (makes : List Entry → A → List Entry → Type 0) (tag : Tag)
@@ -41,12 +42,6 @@ stopped_grows has_room makes tag old new (StepStop.HistoryFull told) stepped =
     over old.seen stepped.0 new.seen (comes_grows old tag stepped.0 stepped.1) (is_same stepped.0 new.seen stepped.4)
 stopped_grows has_room makes tag old new StepStop.Memory stepped =
     over old.seen stepped.0 new.seen (comes_grows old tag stepped.0 stepped.1) (is_same stepped.0 new.seen stepped.3)
-
-goes_on_faultless : (reply : RoundReply) → reply_of_round reply ≡ None → is_faultless (end_of reply) ≡ true
-goes_on_faultless (round.Erased sb) e = refl
-goes_on_faultless (round.Retired sb) e = refl
-goes_on_faultless (round.DieFault die) e = absurd (none-some (WriteReply.DieFault die) (sym e))
-goes_on_faultless round.Left e = refl
 
 module _ (start : Start) (contents : List (Tag × List ℕ)) (caller : CallerView) (tag : Tag) (row : ℕ)
     (alone : caller.number ≡ None) (is_start : IsStart start) (rounds_are : RoundsAloneAreRounds) where
@@ -91,7 +86,7 @@ module _ (start : Start) (contents : List (Tag × List ℕ)) (caller : CallerVie
       record {
         made =
             made_round ladder start.base is_start.blocks_sound tag before rounds turned.made tried.1 alone_round.is_round
-            (goes_on_faultless reply goes) lawful;
+            (faultless_so reply goes) lawful;
         none_open = alone_round.none_open;
       }
 

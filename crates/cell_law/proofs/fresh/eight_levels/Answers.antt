@@ -9,8 +9,8 @@ use Rattle.std.specs.List.{range_with_len}
 use Rattle.std.specs.Simd.Lanes.{zip2}
 use Rattle.cell_law.specs.Quad.{parts_of}
 use Rattle.cell_law.proofs.FreshLemmas.{level_lane}
-use Rattle.cell_law.proofs.NoiseLanes.{eight_equal}
 use Rattle.cell_law.proofs.fresh.eight_levels.Goals as goal
+use Rattle.shared_lemmas.proofs.Lists.{eight_equal}
 
 -- the lowest level of a cell, by its bit
 lowest_is : (law : CellLaw) (bit : Bool) → cond bit (law.erased -ℤ pos law.spread) (law.programmed -ℤ pos law.spread) ≡ aim_of_bit law bit -ℤ pos law.spread

@@ -1,7 +1,7 @@
 use Rattle.std.proofs.Common.{◌≡◌, ℕ}
 use Rattle.cell_law.proofs.FreshLemmas.{lowest_lane}
-use Rattle.cell_law.proofs.NoiseLanes.{eight_equal}
 use Rattle.cell_law.proofs.fresh.lowest_levels.Goals as goal
+use Rattle.shared_lemmas.proofs.Lists.{eight_equal}
 
 pub returns : goal.returns
 returns c =

@@ -3,8 +3,9 @@ use Rattle.std.proofs.lemmas.Int.{to_z-of_z}
 use Rattle.std.specs.Int.{w16}
 use Rattle.std.specs.Int.RustNames.{FitsSigned}
 use Rattle.ssd_geo.specs.Cells.{sensed_bit}
-use Rattle.cell_law.proofs.SenseLemmas.{all_bytes, byte_fits, one_more_byte, one_more_word}
+use Rattle.cell_law.proofs.SenseLemmas.{all_bytes, byte_fits, one_more_byte}
 use Rattle.cell_law.proofs.sense.sense_into.Goals as goal
+use Rattle.shared_lemmas.proofs.WordBits.{one_more_word}
 
 pub loop-w-preserved : goal.loop-w-preserved
 loop-w-preserved c =

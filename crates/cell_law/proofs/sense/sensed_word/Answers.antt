@@ -5,8 +5,8 @@ use Rattle.std.specs.Int.RustNames.{FitsSigned}
 use Rattle.std.proofs.lemmas.Simd.{bitmask_splat, get_or-chunk, length-chunk}
 use Rattle.std.specs.Simd.Lanes.{chunk}
 use Rattle.ssd_geo.specs.Cells.{sensed_bit}
-use Rattle.cell_law.proofs.SenseLemmas.{mask_of_tests}
 use Rattle.cell_law.proofs.sense.sensed_word.Goals as goal
+use Rattle.shared_lemmas.proofs.WordBits.{mask_of_tests}
 
 pub returns : goal.returns
 returns g c =

@@ -9,8 +9,8 @@ turns-init g c =
       copies_are = c.copies_alone_are_copies.ensures;
     }
 
-pub turn-requires-clause-may : goal.turn-requires-clause-may
-turn-requires-clause-may g c κs within =
+pub write_or_round-requires-clause-may : goal.write_or_round-requires-clause-may
+write_or_round-requires-clause-may g c κs within =
     may_write_next c.args.worker.now c.turns.worker (g.S.Steps.view c.args.steps.now) (g.S.Steps.view c.turns.steps)
     (g.S.Steps.stands c.args.steps.now)
     (g.S.Steps.stands c.turns.steps) c.args.tag c.args.row c.args.bytes.now c.turns.invariant.written c.requires.may
@@ -20,8 +20,8 @@ turns-smaller g c =
     turn_is_less c.args.worker.now c.turns.worker (g.S.Steps.view c.args.steps.now) (g.S.Steps.view c.turns.steps)
     (g.S.Steps.stands c.args.steps.now)
     (g.S.Steps.stands c.turns.steps) c.args.tag c.args.row c.args.bytes.now c.turns.invariant.written
-    c.turn.new.worker (g.S.Steps.view c.turn.new.steps) (g.S.Steps.stands c.turn.new.steps) c.turn.ensures.worker
-    c.turn.ensures.caller c.turn.ensures.goes_on
+    c.write_or_round.new.worker (g.S.Steps.view c.write_or_round.new.steps) (g.S.Steps.stands c.write_or_round.new.steps) c.write_or_round.ensures.worker
+    c.write_or_round.ensures.caller c.write_or_round.ensures.goes_on
     c.turns.invariant.copies_are c.requires.alone c.requires.none_open c.requires.may (rw c.in-None.is at
     c.in_ok-reply.ensures.made)
 
@@ -31,8 +31,8 @@ turns-preserved g c =
       written = one_turn_more c.args.worker.now c.turns.worker (g.S.Steps.view c.args.steps.now) (g.S.Steps.view
           c.turns.steps) (g.S.Steps.stands c.args.steps.now)
           (g.S.Steps.stands c.turns.steps) c.args.tag c.args.row c.args.bytes.now c.turns.invariant.written
-          c.turn.new.worker (g.S.Steps.view c.turn.new.steps) (g.S.Steps.stands c.turn.new.steps) c.turn.ensures.worker
-          c.turn.ensures.caller c.turn.ensures.goes_on
+          c.write_or_round.new.worker (g.S.Steps.view c.write_or_round.new.steps) (g.S.Steps.stands c.write_or_round.new.steps) c.write_or_round.ensures.worker
+          c.write_or_round.ensures.caller c.write_or_round.ensures.goes_on
           (rw c.in-None.is at c.in_ok-reply.ensures.made);
       copies_are = c.turns.invariant.copies_are;
     }
@@ -42,8 +42,8 @@ returns-in_err-reply-clause-made g c =
     write_stopped c.args.worker.now c.turns.worker (g.S.Steps.view c.args.steps.now) (g.S.Steps.view c.turns.steps)
     (g.S.Steps.stands c.args.steps.now)
     (g.S.Steps.stands c.turns.steps) c.args.tag c.args.row c.args.bytes.now c.turns.invariant.written
-    c.turn.new.worker (g.S.Steps.view c.turn.new.steps) (g.S.Steps.stands c.turn.new.steps) c.turn.ensures.worker
-    c.turn.ensures.caller c.turn.ensures.goes_on
+    c.write_or_round.new.worker (g.S.Steps.view c.write_or_round.new.steps) (g.S.Steps.stands c.write_or_round.new.steps) c.write_or_round.ensures.worker
+    c.write_or_round.ensures.caller c.write_or_round.ensures.goes_on
     c.in_err-reply.field-0.0 c.in_err-reply.ensures.made c.from_residual.result c.from_residual.ensures.1
 
 pub returns-in-Some-clause-made : goal.returns-in-Some-clause-made
@@ -51,6 +51,6 @@ returns-in-Some-clause-made g c =
     write_ended c.args.worker.now c.turns.worker (g.S.Steps.view c.args.steps.now) (g.S.Steps.view c.turns.steps)
     (g.S.Steps.stands c.args.steps.now)
     (g.S.Steps.stands c.turns.steps) c.args.tag c.args.row c.args.bytes.now c.turns.invariant.written
-    c.turn.new.worker (g.S.Steps.view c.turn.new.steps) (g.S.Steps.stands c.turn.new.steps) c.turn.ensures.worker
-    c.turn.ensures.caller c.turn.ensures.goes_on
+    c.write_or_round.new.worker (g.S.Steps.view c.write_or_round.new.steps) (g.S.Steps.stands c.write_or_round.new.steps) c.write_or_round.ensures.worker
+    c.write_or_round.ensures.caller c.write_or_round.ensures.goes_on
     c.in-Some.reply (rw c.in-Some.is at c.in_ok-reply.ensures.made)

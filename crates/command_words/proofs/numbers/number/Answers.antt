@@ -1,7 +1,8 @@
 use Rattle.std.proofs.Common.{rules, ◌≡◌, ◌∙◌, true}
 use Rattle.ssd_formats.specs.Numbers.{is_number}
-use Rattle.command_words.proofs.NumberTexts.{number_is_text, parsed_is_number}
+use Rattle.command_words.proofs.NumberTexts.{parsed_is_number}
 use Rattle.command_words.proofs.numbers.number.Goals as goal
+use Rattle.ssd_formats.proofs.NumberLaws.{number_is_utf8}
 
 pub returns-in-Ok : goal.returns-in-Ok
 returns-in-Ok c =
@@ -12,4 +13,4 @@ returns-in-Ok c =
 pub returns-in-Err : goal.returns-in-Err
 returns-in-Err c =
     let is : is_number c.args.text.now ≡ true = search rules in
-    absurd (c.in-Err.ensures.cases.0 (number_is_text c.args.text.now is))
+    absurd (c.in-Err.ensures.cases.0 (number_is_utf8 c.args.text.now is))

@@ -7,8 +7,8 @@ use Rattle.onfi_cmd.specs.DieState.{DieState}
 use Rattle.ssd_io.proofs.WriteSteps.{writes_is, wrote}
 use Rattle.contents_file.proofs.DieSteps.{faults_load, levels_told, stays_same}
 use Rattle.contents_file.proofs.PutSteps.{die_fails, puts_all, sink_fails}
-use Rattle.contents_file.proofs.SpelledBytes.{written_whole}
 use Rattle.contents_file.proofs.pages.write_page.Goals as goal
+use Rattle.shared_lemmas.proofs.Lists.{written_whole}
 
 pub returns-in-Err-clause-puts : goal.returns-in-Err-clause-puts
 returns-in-Err-clause-puts g c = die_fails c.args.output.now c.args.number _

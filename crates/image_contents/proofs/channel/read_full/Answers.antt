@@ -9,11 +9,11 @@ use Rattle.onfi_cmd.specs.DieState.{DieState}
 use Rattle.image_file.specs.Gives.{rest_at}
 use Rattle.image_contents.proofs.DiesLoop.{become_if_ok, become_on, become_unasked, loads_kept_if_ok}
 use Rattle.image_contents.proofs.InParts.{blocks_lack, channel_read, rows_lack}
-use Rattle.image_contents.proofs.LevelLists.{written_whole}
 use Rattle.image_contents.proofs.Stops.{all_read, first_load_stops, later_stops}
 use Rattle.image_contents.proofs.TakenSteps.{all_used}
 use Rattle.image_contents.proofs.WholeContents.{contents_taken}
 use Rattle.image_contents.proofs.channel.read_full.Goals as goal
+use Rattle.shared_lemmas.proofs.Lists.{written_whole}
 
 pub returns-in-Err-clause-read : goal.returns-in-Err-clause-read
 returns-in-Err-clause-read g c =

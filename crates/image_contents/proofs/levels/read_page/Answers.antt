@@ -6,9 +6,9 @@ use Rattle.ssd_formats.proofs.HeadLaws.{same_reading}
 use Rattle.ssd_formats.specs.ImageHead.{signed_numbers}
 use Rattle.ssd_geo.specs.Limits.{is_level}
 use Rattle.image_contents.specs.Parts.{IsFirstOutside}
-use Rattle.image_contents.proofs.LevelLists.{written_whole}
 use Rattle.image_contents.proofs.PageLevels.{given_fails, given_lacks, given_passes, outside_within}
 use Rattle.image_contents.proofs.levels.read_page.Goals as goal
+use Rattle.shared_lemmas.proofs.Lists.{written_whole}
 
 pub overflow_mul-result : goal.overflow_mul-result
 overflow_mul-result g c =

@@ -1,9 +1,9 @@
 use Rattle.std.proofs.Common.{◌≡◌, ◌+◌, ◌*◌, ◌<◌, [], ◌∷◌, ◌++◌, get_or, arith, length, rules}
 use Rattle.ssd_formats.specs.Fields.{signed_of_bytes}
 use Rattle.ssd_formats.specs.ImageHead.{signed_numbers}
-use Rattle.image_file.proofs.HeadRanges.{all_short}
 use Rattle.image_file.proofs.MatrixSteps.{numbers_end, numbers_more}
 use Rattle.image_file.proofs.matrix.numbers_of.Goals as goal
+use Rattle.ssd_formats.proofs.SpelledHeads.{all_short}
 
 pub loop-i-preserved : goal.loop-i-preserved
 loop-i-preserved c =

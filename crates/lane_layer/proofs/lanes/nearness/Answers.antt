@@ -1,9 +1,7 @@
 use Rattle.std.proofs.Common.{◌≡◌, ℕ, ◌+◌, ◌-◌, ◌%◌, ◌≤◌, min, get_or, ap, ◌∙◌, arith}
 use Rattle.lane_layer.proofs.LaneValues.{HasLanes-same, HasLanes-splat_first}
 use Rattle.lane_layer.proofs.lanes.nearness.Goals as goal
-
-less : (c : ℕ) → c ≤ 254 → (254 + (256 - c)) % 256 ≡ 254 - c
-less c h = omega arith
+use Rattle.lane_layer.proofs.Codes.{less}
 
 pub returns : goal.returns
 returns g c =

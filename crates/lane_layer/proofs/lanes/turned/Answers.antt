@@ -2,9 +2,7 @@ use Rattle.std.proofs.Common.{◌≡◌, ℕ, ◌+◌, ◌-◌, ◌%◌, ◌≤�
 use Rattle.std.proofs.lemmas.Simd.{length-replicate, get_or-replicate}
 use Rattle.lane_layer.proofs.LaneValues.{HasLanes-same, HasLanes-splat_first, HasLanes-select}
 use Rattle.lane_layer.proofs.lanes.turned.Goals as goal
-
-less : (c : ℕ) → c ≤ 254 → (254 + (256 - c)) % 256 ≡ 254 - c
-less c h = omega arith
+use Rattle.lane_layer.proofs.Codes.{less}
 
 one_lane : (middle sign other code : ℕ) → middle ≡ 128 → other ≡ 254 - code → cond (leb middle sign) other code ≡ cond (leb 128 sign) (254 - code) code
 one_lane middle sign other code h k = cc

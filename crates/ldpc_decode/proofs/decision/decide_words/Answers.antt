@@ -1,7 +1,7 @@
 use Rattle.std.proofs.Common.{◌∙◌, arith}
 use Rattle.ssd_geo.specs.RowRule.{is_negative}
-use Rattle.ldpc_decode.proofs.Words.{one_more_word}
 use Rattle.ldpc_decode.proofs.decision.decide_words.Goals as goal
+use Rattle.shared_lemmas.proofs.WordBits.{one_more_word}
 
 pub loop-w-preserved : goal.loop-w-preserved
 loop-w-preserved c =

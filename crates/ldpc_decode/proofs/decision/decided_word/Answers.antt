@@ -2,8 +2,8 @@ use Rattle.std.proofs.Common.{◌≡◌, cond, eqb, length, ℤ, pos, sym, ap, �
 use Rattle.std.proofs.lemmas.Simd.{bitmask_splat, get_or-chunk, length-chunk}
 use Rattle.std.specs.Simd.Lanes.{chunk}
 use Rattle.ssd_geo.specs.RowRule.{is_negative}
-use Rattle.ldpc_decode.proofs.Words.{mask_of_tests}
 use Rattle.ldpc_decode.proofs.decision.decided_word.Goals as goal
+use Rattle.shared_lemmas.proofs.WordBits.{mask_of_tests}
 
 pub returns : goal.returns
 returns c =

@@ -4,8 +4,9 @@ use Rattle.std.proofs.lemmas.List.FromFn.{length-map-range_with_len}
 use Rattle.std.proofs.lemmas.Int.{ints, to_z-of_z}
 use Rattle.ssd_geo.specs.Decoding.{edges_of, sums_of}
 use Rattle.ssd_geo.specs.Layer.{variable_of, variables_of}
-use Rattle.minsum_layer.proofs.Scattered.{placed_more, placed_all, sums_at, length-sums_of, variable_place, edge_place}
+use Rattle.minsum_layer.proofs.Scattered.{placed_more, placed_all, sums_at}
 use Rattle.minsum_layer.proofs.layer.scatter.Goals as goal
+use Rattle.ssd_geo.proofs.WorkedRows.{edge_at, length-sums_of, variable_at}
 
 pub loop-e-preserved : goal.loop-e-preserved
 loop-e-preserved c =
@@ -27,11 +28,11 @@ loop-e-preserved c =
     let in_variables : e < length variables = omega (arith, length-map layer (variable_of z t)) in
     let in_edges : e < length (edges_of (length layer) z t) = omega (arith, length-map-range_with_len (λ k. k * z + t) 0 (length layer)) in
     let in_sums : e < length (sums_of given told) = omega (arith, length-sums_of given told (omega arith)) in
-    let place = variable_place layer z t e (omega arith) ∙ sym c.variable_at-variable.ensures in
+    let place = variable_at layer z t e (omega arith) ∙ sym c.variable_at-variable.ensures in
     let value : get_or (sums_of given told) e (pos 0) ≡ c.from.result +ℤ c.from-in-loop-e.result =
     (let s = sums_at given told e (omega arith) (omega arith) in cc) in (
       simp to_z-of_z (sym (placed_more c.loop-e.p variables (sums_of given told) e _ _ in_variables in_sums place value) ∙ c.loop-e.invariant.0),
-      simp to_z-of_z (sym (placed_more c.loop-e.r (edges_of (length layer) z t) told e edge _ in_edges (omega arith) (edge_place (length layer) z t e (omega arith)) refl) ∙ c.loop-e.invariant.1),
+      simp to_z-of_z (sym (placed_more c.loop-e.r (edges_of (length layer) z t) told e edge _ in_edges (omega arith) (edge_at (length layer) z t e (omega arith)) refl) ∙ c.loop-e.invariant.1),
     )
 
 pub returns-clause-variables : goal.returns-clause-variables

@@ -8,8 +8,8 @@ turns-init g c =
     none_written c.args.worker.now (view_of_shared c.args.steps.now.turns.now c.args.steps.now.pass g.J.Contents.contents)
     (stands_just_for c.args.steps.now.turns.now.start g.J.Contents.contents) c.args.tag c.args.row c.args.bytes.now
 
-pub turn-requires-clause-may : goal.turn-requires-clause-may
-turn-requires-clause-may g c κs within =
+pub write_or_round-requires-clause-may : goal.write_or_round-requires-clause-may
+write_or_round-requires-clause-may g c κs within =
     may_write_next c.args.worker.now c.turns.worker
     (view_of_shared c.args.steps.now.turns.now c.args.steps.now.pass g.J.Contents.contents)
     (view_of_shared c.turns.steps.turns.now c.turns.steps.pass g.J.Contents.contents)
@@ -25,9 +25,9 @@ turns-preserved g c =
     (stands_just_for c.args.steps.now.turns.now.start g.J.Contents.contents)
     (stands_just_for c.turns.steps.turns.now.start g.J.Contents.contents)
     c.args.tag c.args.row c.args.bytes.now c.turns.invariant
-    c.turn.new.worker (view_of_shared c.turn.new.steps.turns.now c.turn.new.steps.pass g.J.Contents.contents)
-    (stands_just_for c.turn.new.steps.turns.now.start g.J.Contents.contents)
-    c.turn.ensures.worker c.turn.ensures.caller c.turn.ensures.goes_on
+    c.write_or_round.new.worker (view_of_shared c.write_or_round.new.steps.turns.now c.write_or_round.new.steps.pass g.J.Contents.contents)
+    (stands_just_for c.write_or_round.new.steps.turns.now.start g.J.Contents.contents)
+    c.write_or_round.ensures.worker c.write_or_round.ensures.caller c.write_or_round.ensures.goes_on
     (rw c.in-None-2.is at c.in_ok-reply.ensures.made)
 
 pub returns-in_err-reply-clause-made : goal.returns-in_err-reply-clause-made
@@ -38,9 +38,9 @@ returns-in_err-reply-clause-made g c =
     (stands_just_for c.args.steps.now.turns.now.start g.J.Contents.contents)
     (stands_just_for c.turns.steps.turns.now.start g.J.Contents.contents)
     c.args.tag c.args.row c.args.bytes.now c.turns.invariant
-    c.turn.new.worker (view_of_shared c.turn.new.steps.turns.now c.turn.new.steps.pass g.J.Contents.contents)
-    (stands_just_for c.turn.new.steps.turns.now.start g.J.Contents.contents)
-    c.turn.ensures.worker c.turn.ensures.caller c.turn.ensures.goes_on
+    c.write_or_round.new.worker (view_of_shared c.write_or_round.new.steps.turns.now c.write_or_round.new.steps.pass g.J.Contents.contents)
+    (stands_just_for c.write_or_round.new.steps.turns.now.start g.J.Contents.contents)
+    c.write_or_round.ensures.worker c.write_or_round.ensures.caller c.write_or_round.ensures.goes_on
     c.in_err-reply.field-0.0 c.in_err-reply.ensures.made c.from_residual.result c.from_residual.ensures.1
 
 pub returns-in-Some-2-clause-made : goal.returns-in-Some-2-clause-made
@@ -51,7 +51,7 @@ returns-in-Some-2-clause-made g c =
     (stands_just_for c.args.steps.now.turns.now.start g.J.Contents.contents)
     (stands_just_for c.turns.steps.turns.now.start g.J.Contents.contents)
     c.args.tag c.args.row c.args.bytes.now c.turns.invariant
-    c.turn.new.worker (view_of_shared c.turn.new.steps.turns.now c.turn.new.steps.pass g.J.Contents.contents)
-    (stands_just_for c.turn.new.steps.turns.now.start g.J.Contents.contents)
-    c.turn.ensures.worker c.turn.ensures.caller c.turn.ensures.goes_on
+    c.write_or_round.new.worker (view_of_shared c.write_or_round.new.steps.turns.now c.write_or_round.new.steps.pass g.J.Contents.contents)
+    (stands_just_for c.write_or_round.new.steps.turns.now.start g.J.Contents.contents)
+    c.write_or_round.ensures.worker c.write_or_round.ensures.caller c.write_or_round.ensures.goes_on
     c.in-Some-2.reply (rw c.in-Some-2.is at c.in_ok-reply.ensures.made)

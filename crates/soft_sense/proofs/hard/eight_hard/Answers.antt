@@ -1,5 +1,6 @@
-use Rattle.soft_sense.proofs.LaneLemmas.{eight_equal, hard_lane}
+use Rattle.soft_sense.proofs.LaneLemmas.{hard_lane}
 use Rattle.soft_sense.proofs.hard.eight_hard.Goals as goal
+use Rattle.shared_lemmas.proofs.Lists.{eight_equal}
 
 pub returns : goal.returns
 returns c =

@@ -1,5 +1,6 @@
-use Rattle.soft_sense.proofs.LaneLemmas.{eight_equal, zero_lane}
+use Rattle.soft_sense.proofs.LaneLemmas.{zero_lane}
 use Rattle.soft_sense.proofs.zeros.zero_lanes.Goals as goal
+use Rattle.shared_lemmas.proofs.Lists.{eight_equal}
 
 pub returns : goal.returns
 returns c =

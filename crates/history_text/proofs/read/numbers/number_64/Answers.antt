@@ -1,7 +1,8 @@
 use Rattle.std.proofs.Common.{rules, ◌≡◌, ◌∙◌, true}
 use Rattle.ssd_formats.specs.Numbers.{is_number}
-use Rattle.history_text.proofs.NumberWords.{number_is_utf8, parsed_number}
+use Rattle.history_text.proofs.NumberWords.{parsed_number}
 use Rattle.history_text.proofs.read.numbers.number_64.Goals as goal
+use Rattle.ssd_formats.proofs.NumberLaws.{number_is_utf8}
 
 pub returns-in-Ok : goal.returns-in-Ok
 returns-in-Ok c =

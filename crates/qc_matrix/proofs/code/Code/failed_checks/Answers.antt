@@ -4,8 +4,8 @@ use Rattle.std.specs.Prelude.{count_by, sum_by}
 use Rattle.std.specs.List.{range_with_len}
 use Rattle.ssd_geo.specs.Bits.{bits_of}
 use Rattle.ssd_geo.specs.Codewords.{is_odd_row, word_bits}
-use Rattle.qc_matrix.proofs.OddSums.{sum_by-range_more}
 use Rattle.qc_matrix.proofs.code.Code.failed_checks.Goals as goal
+use Rattle.shared_lemmas.proofs.Lists.{sum_by-range_more}
 
 pub loop-i-preserved : goal.loop-i-preserved
 loop-i-preserved c =

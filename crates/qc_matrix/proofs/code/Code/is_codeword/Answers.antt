@@ -7,8 +7,8 @@ use Rattle.std.proofs.lemmas.List.FromFn.{get_or-range_with_len, length-range_wi
 use Rattle.std.proofs.lemmas.List.Sums.{sum_by_more_le}
 use Rattle.ssd_geo.specs.Bits.{bits_of}
 use Rattle.ssd_geo.specs.Codewords.{is_odd_row, word_bits}
-use Rattle.qc_matrix.proofs.OddSums.{sum_by-range_more}
 use Rattle.qc_matrix.proofs.code.Code.is_codeword.Goals as goal
+use Rattle.shared_lemmas.proofs.Lists.{sum_by-range_more}
 
 -- a term of a sum that isn't 0
 some : (f : ℕ → ℕ) (i n : ℕ) → i < n → 0 < f i → 0 < sum_by f (range_with_len 0 n)

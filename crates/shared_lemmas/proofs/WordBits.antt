@@ -1,7 +1,7 @@
--- The bits of 64 numbers make a word, and its bytes.
+-- The bits of a word of 64 make its bytes.
 use Rattle.std.proofs.Common.{◌≡◌, ℕ, zero, suc, ◌+◌, ◌-◌, ◌*◌, ◌/◌, ◌%◌, ◌^◌, ◌<◌, ◌≤◌, Bool, true, false, cond, eqb, List, [], ◌∷◌, ◌++◌, map, length, get_or, take, drop, ℤ, pos, refl, sym, ◌∙◌, ap, inl, inr, arith}
 use Rattle.std.proofs.lemmas.Bool.{cases_lt}
-use Rattle.std.proofs.lemmas.List.{take-map, drop-map, length-take-le, drop-take, drop-drop, get_or-take, get_or_append_left, get_or-append_right}
+use Rattle.std.proofs.lemmas.List.{take-map, drop-map, length-take-le, drop-take, drop-drop, get_or-take, get_or_append_left, get_or-append_right, take-take}
 use Rattle.std.proofs.lemmas.Nat.{pow_pos, shr-shr}
 use Rattle.std.proofs.lemmas.Slice.{take-put_mid}
 use Rattle.std.proofs.Math.Nat.{div-add-mod, div-eq_of_lt, mod-eq_of_lt, mod-lt, mul-add-mod_self_left, two-pow-succ}
@@ -18,8 +18,7 @@ mask_of_tests p [] [] same each = refl
 mask_of_tests p [] (cell ∷ cells) same each = absurd (omega arith)
 mask_of_tests p (test ∷ tests) [] same each = absurd (omega arith)
 mask_of_tests p (test ∷ tests) (cell ∷ cells) same each =
-    let bit : (b : Bool) → eqb (cond b 255 0) 255 ≡ b =
-    λ b. elim b as (λ b. eqb (cond b 255 0) 255 ≡ b) [ true ↦ refl | false ↦ refl ] in
+    let bit : (b : Bool) → eqb (cond b 255 0) 255 ≡ b = λ b. elim b as (λ b. eqb (cond b 255 0) 255 ≡ b) [ true ↦ refl | false ↦ refl ] in
     let first : eqb test 255 ≡ p cell = ap (λ (n : ℕ). eqb n 255) (each 0 (omega arith)) ∙ bit (p cell) in
     let rest : mask_l (map (λ test. eqb test 255) tests) ≡ number_of (map p cells) =
     mask_of_tests p tests cells (omega arith) (λ k h. each (suc k) (omega arith)) in
@@ -27,12 +26,12 @@ mask_of_tests p (test ∷ tests) (cell ∷ cells) same each =
     ∙ ap (λ (n : ℕ). cond (p cell) 1 0 + 2 * n) rest
 
 -- the number of bits without the lowest one
-half : (bit : Bool) (n : ℕ) → (cond bit 1 0 + 2 * n) / 2 ≡ n
+pub half : (bit : Bool) (n : ℕ) → (cond bit 1 0 + 2 * n) / 2 ≡ n
 half true n = omega arith
 half false n = omega arith
 
 -- the number of the bits from a place on
-number_of-drop : (k : ℕ) (bits : List Bool) → number_of bits / 2 ^ k ≡ number_of (drop k bits)
+pub number_of-drop : (k : ℕ) (bits : List Bool) → number_of bits / 2 ^ k ≡ number_of (drop k bits)
 number_of-drop zero bits = omega arith
 number_of-drop (suc k) [] = div-eq_of_lt (pow_pos (suc k))
 number_of-drop (suc k) (bit ∷ bits) =
@@ -43,7 +42,7 @@ number_of-drop (suc k) (bit ∷ bits) =
     ∙ number_of-drop k bits
 
 -- the remainder of a number by twice a power, from that of its half
-twice : (bit : Bool) (n m : ℕ) → 0 < m → (cond bit 1 0 + 2 * n) % (2 * m) ≡ cond bit 1 0 + 2 * (n % m)
+pub twice : (bit : Bool) (n m : ℕ) → 0 < m → (cond bit 1 0 + 2 * n) % (2 * m) ≡ cond bit 1 0 + 2 * (n % m)
 twice bit n m some =
     let low : cond bit 1 0 ≤ 1 = elim bit as (λ b. cond b 1 0 ≤ 1) [ true ↦ omega arith | false ↦ omega arith ] in
     let rest : n % m < m = mod-lt n some in
@@ -53,7 +52,7 @@ twice bit n m some =
     ∙ mod-eq_of_lt (let below : cond bit 1 0 + 2 * (n % m) < 2 * m = omega arith in below)
 
 -- the number of the bits before a place
-number_of-take : (k : ℕ) (bits : List Bool) → number_of bits % 2 ^ k ≡ number_of (take k bits)
+pub number_of-take : (k : ℕ) (bits : List Bool) → number_of bits % 2 ^ k ≡ number_of (take k bits)
 number_of-take zero bits = omega arith
 number_of-take (suc k) [] = mod-eq_of_lt (pow_pos (suc k))
 number_of-take (suc k) (bit ∷ bits) =
@@ -63,7 +62,7 @@ number_of-take (suc k) (bit ∷ bits) =
     ∙ ap (λ (n : ℕ). cond bit 1 0 + 2 * n) (number_of-take k bits)
 
 -- byte j of the eight that hold a number
-stored : (n j : ℕ) → j < 8 → get_or (to_le_bytes w64 n) j 0 ≡ n / 2 ^ (8 * j) % 2 ^ 8
+pub stored : (n j : ℕ) → j < 8 → get_or (to_le_bytes w64 n) j 0 ≡ n / 2 ^ (8 * j) % 2 ^ 8
 stored n zero h = let none : n / 2 ^ (8 * 0) ≡ n = omega arith in ap (λ (m : ℕ). m % 2 ^ 8) (sym none)
 stored n (suc zero) h = refl
 stored n (suc (suc zero)) h = refl
@@ -74,15 +73,8 @@ stored n (suc (suc (suc (suc (suc (suc zero)))))) h = refl
 stored n (suc (suc (suc (suc (suc (suc (suc zero))))))) h = refl
 stored n (suc (suc (suc (suc (suc (suc (suc (suc j)))))))) h = absurd (omega arith)
 
--- the first items of the first ones
-take-take : (m n : ℕ) (bits : List Bool) → m ≤ n → take m (take n bits) ≡ take m bits
-take-take zero n bits h = refl
-take-take (suc m) zero bits h = absurd (omega arith)
-take-take (suc m) (suc n) [] h = refl
-take-take (suc m) (suc n) (bit ∷ bits) h = ap (λ (xs : List Bool). bit ∷ xs) (take-take m n bits (omega arith))
-
 -- the bytes of the number of 64 cells' bits are the bytes of those cells
-byte_of_word : (p : ℤ → Bool) (levels : List ℤ) (w j : ℕ) → j < 8 →
+pub byte_of_word : (p : ℤ → Bool) (levels : List ℤ) (w j : ℕ) → j < 8 →
     number_of (map p (chunk (64 * w) 64 levels)) / 2 ^ (8 * j) % 2 ^ 8 ≡ byte_of (map p levels) (8 * w + j)
 byte_of_word p levels w j h =
     let bits = map p levels in
@@ -111,12 +103,9 @@ one_more_word p levels out part w word room is written before k h =
     let front : length (take (8 * w) out) ≡ 8 * w = length-take-le (8 * w) out (omega arith) in
     let taken : get_or (put_mid (8 * w) (8 * w + 8 - 8 * w) out part) k 0 ≡ get_or (take (8 * w) out ++ part) k 0 =
     sym (get_or-take (8 * (w + 1)) (put_mid (8 * w) (8 * w + 8 - 8 * w) out part) k 0 h)
-    ∙ ap (λ (xs : List ℕ). get_or xs k 0)
-    (take-put_mid (8 * w) (8 * w + 8 - 8 * w) out part (8 * (w + 1)) (omega arith) (omega arith)) in
+    ∙ ap (λ (xs : List ℕ). get_or xs k 0) (take-put_mid (8 * w) (8 * w + 8 - 8 * w) out part (8 * (w + 1)) (omega arith) (omega arith)) in
     elim (cases_lt k (8 * w)) [
-      | inl low ↦
-          taken ∙ get_or_append_left (take (8 * w) out) part 0 k (omega arith) ∙ get_or-take (8 * w) out k 0 low
-          ∙ before k low
+      | inl low ↦ taken ∙ get_or_append_left (take (8 * w) out) part 0 k (omega arith) ∙ get_or-take (8 * w) out k 0 low ∙ before k low
       | inr high ↦
           let j = k - 8 * w in
           let place : 8 * w + j ≡ k = omega arith in

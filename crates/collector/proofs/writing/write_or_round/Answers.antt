@@ -8,7 +8,7 @@ use Rattle.collector.specs.Writes.{TurnsWrite}
 use Rattle.collector.specs.declared.replies.WriteReply.{WriteReply}
 use Rattle.collector.proofs.FirstCallers.{is_that_stop}
 use Rattle.collector.proofs.WriteSteps.{may_write_still, room_refused, room_turns, same_worker, with_data, write_ends, write_fails, writes_both}
-use Rattle.shared_writes.proofs.writing.turn.Goals as goal
+use Rattle.collector.proofs.writing.write_or_round.Goals as goal
 
 pub round-requires-clause-may : goal.round-requires-clause-may
 round-requires-clause-may g c κs within =
