@@ -4,8 +4,8 @@ with those of the plain simulation.
 
 Good inputs of both versions, whose traces have all verbs, are damaged in each way of `simulation/hostile_inputs.py`. The
 simulation serves each of them whole, and all that the program gives must be the same: so it ends with a status of the
-table, within the time and the memory that are allowed. The good inputs also come in pieces, streams are closed or full, each
-read and many a write fails in the middle, and memory is refused.
+table, within the time and the memory that are allowed. Some of them are saved and formatted, too. The good inputs also come
+in pieces, streams are closed or full, each read and many a write fails in the middle, and memory is refused.
 
 usage: hostile.py PROGRAM [any-memory] [one-in=N]        (prints the numbers of cases, and what differs; exits 0 where
                                                          nothing does, 1 otherwise)
@@ -28,9 +28,9 @@ import time
 from collections import Counter
 
 from simulation import faulty_contents
-from simulation.hostile_inputs import damaged_inputs, good_inputs
+from simulation.hostile_inputs import damaged_inputs, full_inputs, good_inputs
 from simulation.made_inputs import Drive
-from simulation.run import CONTENTS_ARE_SERVED, formatted, simulated
+from simulation.run import formatted, saved_by, simulated
 
 SECONDS = 60
 # Each drive of these inputs takes a few megabytes.
@@ -38,16 +38,13 @@ MEMORY = 2 ** 30
 
 # What has to come up among the damaged inputs, each at least this often.
 NEEDED = {
-    "served": 1000,
+    "run: served": 1000, "save: served": 1000, "format: served": 1000,
     "image fault: short": 500, "image fault: magic": 50, "image fault: range": 500, "image fault: entry": 50,
     "image fault: parity": 10, "image fault: diagonal": 10, "image fault: order": 5,
     "trace fault: first": 100, "trace fault: long": 30, "trace fault: form": 500, "trace fault: number": 100,
     "trace fault: actor": 20, "trace fault: verb": 500, "trace fault: range": 50, "trace fault: data": 100,
-}
-NEEDED_OF_CONTENTS = {
     "image fault: state": 10, "image fault: count": 50, "image fault: sum": 50, "image fault: row": 20,
 }
-NEEDED |= NEEDED_OF_CONTENTS if CONTENTS_ARE_SERVED else {"not built": 5}
 
 
 def ended(program, given, words=("run",)):
@@ -59,7 +56,12 @@ def ended(program, given, words=("run",)):
     return run.returncode, run.stdout, run.stderr
 
 
-def due_of(given):
+def due_of(given, command="run"):
+    """What is due of a command: status, output and text on standard error."""
+    if command == "format":
+        return formatted(given)
+    if command == "save":
+        return saved_by(given, Counter())
     status, output, message = simulated(given, Counter())
     return status, output.encode(), message.encode()
 
@@ -74,11 +76,11 @@ def difference(what, got, due):
             f"due were {due[0]}, {due[2]!r} and {due[1][shown]!r}: {what}")
 
 
-def outcome_of(due):
-    """What came up: that the input was served, or its fault without the place."""
+def outcome_of(command, due):
+    """What came up: that the input was served by a command, or its fault without the place."""
     status, _, message = due
     if status not in (3, 4):
-        return message.decode().strip() or "served"
+        return f"{command}: {message.decode().strip() or 'served'}"
     words = message.decode().split()
     return f"{words[0]} fault: {words[-1]}"
 
@@ -93,16 +95,17 @@ def prepared(program, memory):
 
 def tried(case):
     """What came up with a damaged input, and what is wrong."""
-    kind, given = case
-    word = "format" if kind.startswith("format") else "run"
-    due = formatted(given) if word == "format" else due_of(given)
-    return outcome_of(due), difference(f"{kind}: {given[:9000].hex()}", ended(tried_program, given, (word,)), due)
+    command, kind, given = case
+    due = due_of(given, command)
+    what = f"{command}, {kind}: {given[:9000].hex()}"
+    return outcome_of(command, due), difference(what, ended(tried_program, given, (command,)), due)
 
 
-def with_formats(cases):
-    """The cases, and one in six of those whose image is damaged once more for `format`."""
+def with_commands(cases):
+    """The cases for `run`; one in five of them for `save`; and one in six of those whose image is damaged for `format`."""
     images = [case for case in cases if "image" in case[0] or "cut" in case[0] or "contents" in case[0] or "edges" in case[0]]
-    return cases + [(f"format, {kind}", given) for kind, given in images[::6]]
+    chosen = [("run", cases), ("save", cases[::5]), ("format", images[::6])]
+    return [(command, *case) for command, listed in chosen for case in listed]
 
 
 class Check:
@@ -121,30 +124,31 @@ class Check:
         self.note(kind, difference(what, got, due))
 
     def damaged(self):
-        cases = with_formats(damaged_inputs())[::self.one_in]
+        cases = with_commands(damaged_inputs())[::self.one_in]
         with multiprocessing.get_context("fork").Pool(4, prepared, (self.program, self.memory)) as pool:
-            for (kind, _), (outcome, wrong) in zip(cases, pool.imap(tried, cases, chunksize=16)):
+            for (command, kind, _), (outcome, wrong) in zip(cases, pool.imap(tried, cases, chunksize=16)):
                 self.outcomes[outcome] += 1
-                self.note(kind, wrong)
+                self.note(kind if command == "run" else f"{command}, {kind}", wrong)
         if self.one_in == 1:
             self.wrong += [f"{outcome} came up {self.outcomes[outcome]} times, and {least} are due"
                            for outcome, least in NEEDED.items() if self.outcomes[outcome] < least]
 
     def contents(self):
-        """Worked examples of contents: in the simulation, and in the program where it serves contents."""
+        """Worked examples of contents, in the simulation and in the program; each is saved, too."""
         self.wrong += faulty_contents.wrong_contents()
-        for what, given, *due in faulty_contents.rows() if CONTENTS_ARE_SERVED else []:
+        for what, given, *due in faulty_contents.rows():
             status, output, message = due
             self.expect("an example of contents", what, ended(self.program, given),
                         (status, output.encode(), message.encode()))
+            self.expect("save, an example of contents", what, ended(self.program, given, ("save",)), due_of(given, "save"))
 
     def pieces(self):
         """Good inputs, and their fronts that end in the image and in the trace, that come a few bytes at a time."""
-        for what, image, trace in good_inputs():
+        for command, what, image, trace in [("run", *good) for good in good_inputs()] + [("save", *full_inputs()[1])]:
             for given in (image + trace, image[:-1], image + trace[:-3]):
                 for size in (1, 7):
-                    got = in_pieces(self.program, given, size)
-                    self.expect("an input in pieces", f"{what}, {size} bytes at a time", got, due_of(given))
+                    got = in_pieces(self.program, command, given, size)
+                    self.expect("an input in pieces", f"{command}, {what}, {size} bytes at a time", got, due_of(given, command))
 
     def words(self):
         """Words that are nearly the one that is served, or no text, or very long."""
@@ -153,6 +157,9 @@ class Check:
         lists = [(word,) for word in (b"", b"r", b"ru", b"runn", b"Run", b"RUN", b" run", b"run ", b"run\n", b"run=", b"=run",
                                       b"-run", b"--run", b"--", b"run\xff", b"\xff", b"\xc3\xbcn", b"r" * 131000)]
         lists += [(b"run", word) for word in (b"", b"=", b"-", b"--", b"--=", b"run", b"\xff", b"--\xff=1", b"x" * 131000)]
+        lists += [(word,) for word in (b"Save", b"sav", b"saved", b"save=", b"--save")]
+        lists += [(b"save", word) for word in (b"", b"save", b"--show=all", b"--show=summary", b"--history=255", b"--lanes=2",
+                                               b"--policy=", b"--policy=Oldest")]
         lists += [(b"run", *[b"run"] * 9999), ()]
         for words in lists:
             shown = [word[:20] for word in words[:3]]
@@ -177,60 +184,77 @@ class Check:
                 ("standard error is closed", "2>&-", wrong, mark),
                 ("standard error is full, and the input is good", "2> /dev/full", given, due_of(given)),
                 ("all are closed but standard input", ">&- 2>&-", given, (6, b"", b""))]:
-            run = subprocess.run(["/bin/sh", "-c", f'exec "$0" run {redirection}', self.program], input=fed,
-                                 capture_output=True, timeout=SECONDS)
-            self.expect("a stream that fails", what, (run.returncode, run.stdout, run.stderr), due)
+            for command in ("run", "save"):
+                if due[0] == 0:
+                    due = due_of(fed, command)
+                run = subprocess.run(["/bin/sh", "-c", f'exec "$0" {command} {redirection}', self.program], input=fed,
+                                     capture_output=True, timeout=SECONDS)
+                self.expect("a stream that fails", f"{command}, {what}", (run.returncode, run.stdout, run.stderr), due)
 
     def failing_reads(self):
         """Good inputs of which the first bytes come, and then a read fails."""
-        for what, image, trace in (good_inputs()[0], good_inputs()[-1]):
+        # The last of them is long, and its levels are read one like the other.
+        chosen = [("run", good_inputs()[0], 1), ("run", good_inputs()[-1], 1), ("save", good_inputs()[1], 1),
+                  ("save", full_inputs()[1], 5)]
+        for command, (what, image, trace), step in chosen:
             given = image + trace
-            for end in range(len(given) + 1):
-                got = with_a_failing_read(self.program, given[:end])
-                self.expect("a read that fails", f"{what}, after {end} bytes", got, (5, b"", b"read fault\n"))
+            for end in range(0, len(given) + 1, step):
+                got = with_a_failing_read(self.program, command, given[:end])
+                self.expect("a read that fails", f"{command}, {what}, after {end} bytes", got, (5, b"", b"read fault\n"))
 
     def failing_writes(self):
-        """A long output of which the first bytes find room, and then a write fails."""
-        given = megabytes()
-        whole = due_of(given)[1]
-        ends = {end for at in range(0, len(whole), 4096) for end in (at, at + 1, at + 2000, at + 4095) if end < len(whole)}
-        for end in sorted(ends | {len(whole) - 1}):
-            got = with_room_for(self.program, given, end)
-            self.expect("a write that fails", f"after {end} bytes", got, (6, whole[:end], b"write fault\n"))
-        got = with_room_for(self.program, given, len(whole))
-        self.expect("a write that fails", "room for all", got, (0, whole, b""))
-        reader, writer = os.pipe()
-        os.close(reader)
-        run = subprocess.run([self.program, "run"], input=given, stdout=writer, stderr=subprocess.PIPE, timeout=SECONDS)
-        os.close(writer)
-        self.expect("a write that fails", "a pipe that no one reads", (run.returncode, b"", run.stderr),
-                    (6, b"", b"write fault\n"))
+        """Long outputs of which the first bytes find room, and then a write fails."""
+        for command, given, step in [("run", megabytes(), 4096), ("save", saved_megabytes(), 65536)]:
+            whole = due_of(given, command)[1]
+            ends = {end for at in range(0, len(whole), step) for end in (at, at + 1, at + 2000, at + 4095) if end < len(whole)}
+            for end in sorted(ends | {len(whole) - 1}):
+                got = with_room_for(self.program, command, given, end)
+                self.expect("a write that fails", f"{command}, after {end} bytes", got, (6, whole[:end], b"write fault\n"))
+            got = with_room_for(self.program, command, given, len(whole))
+            self.expect("a write that fails", f"{command}, room for all", got, (0, whole, b""))
+            reader, writer = os.pipe()
+            os.close(reader)
+            run = subprocess.run([self.program, command], input=given, stdout=writer, stderr=subprocess.PIPE, timeout=SECONDS)
+            os.close(writer)
+            self.expect("a write that fails", f"{command}, a pipe that no one reads", (run.returncode, b"", run.stderr),
+                        (6, b"", b"write fault\n"))
+        self.fronts_of_an_image()
+
+    def fronts_of_an_image(self):
+        """A small drive that is saved where each fifth number of bytes finds room, and where one byte doesn't."""
+        what, image, trace = good_inputs()[1]
+        whole = due_of(image + trace, "save")[1]
+        for end in [*range(0, len(whole), 5), len(whole) - 1]:
+            got = with_room_for(self.program, "save", image + trace, end)
+            self.expect("a write that fails", f"save, {what}, after {end} bytes", got, (6, whole[:end], b"write fault\n"))
 
     def refused_memory(self):
-        """A drive of some megabytes, where the program may take less and less: each run ends for want of memory with nothing
+        """Drives of some megabytes, where the program may take less and less: each run ends for want of memory with nothing
         written, or is whole."""
-        given, due = megabytes(), due_of(megabytes())
-        ends = Counter()
-        for kilobytes in range(16000, 0, -200):
-            command = f'ulimit -v {kilobytes}; exec "$0" run'
-            got = ended("/bin/sh", given, ("-c", command, self.program))
-            # With still less the program can't be loaded.
-            if ends[8] and got[0] not in (0, 8):
-                break
-            ends[got[0]] += 1
-            # Memory may be refused to the text of the status, too.
-            text = b"out of memory\n" if got[2] else b""
-            self.expect("memory refused", f"{kilobytes} kB", got, due if got[0] == 0 else (8, b"", text))
-        self.wrong += [f"no run with little memory ended in status {status}" for status in (0, 8) if not ends[status]]
+        for command, given in [("run", megabytes()), ("save", saved_megabytes())]:
+            due, ends = due_of(given, command), Counter()
+            for kilobytes in range(16000, 0, -200):
+                limited = f'ulimit -v {kilobytes}; exec "$0" {command}'
+                got = ended("/bin/sh", given, ("-c", limited, self.program))
+                # With still less the program can't be loaded.
+                if ends[8] and got[0] not in (0, 8):
+                    break
+                ends[got[0]] += 1
+                # Memory may be refused to the text of the status, too.
+                text = b"out of memory\n" if got[2] else b""
+                self.expect("memory refused", f"{command}, {kilobytes} kB", got, due if got[0] == 0 else (8, b"", text))
+            self.wrong += [f"no {command} with little memory ended in status {status}"
+                           for status in (0, 8) if not ends[status]]
 
     def printed(self, seconds):
         for numbers in (self.kinds, self.outcomes):
             print("; ".join(f"{what}: {count}" for what, count in sorted(numbers.items())))
-        print(f"hostile inputs: {self.kinds.total()} cases, all compared whole, {self.outcomes['served']} of them served; "
+        served = sum(count for outcome, count in self.outcomes.items() if outcome.endswith(": served"))
+        print(f"hostile inputs: {self.kinds.total()} cases, all compared whole, {served} of them served; "
               f"{len(self.wrong)} differ; {seconds:.0f} s")
 
 
-def with_a_failing_read(program, given):
+def with_a_failing_read(program, command, given):
     """How the program ends where standard input gives these bytes, and then a read fails: the other end of a connection was
     closed before it had read what was sent to it."""
     near, far = socket.socketpair()
@@ -238,11 +262,11 @@ def with_a_failing_read(program, given):
     far.sendall(given)
     far.close()
     with near:
-        run = subprocess.run([program, "run"], stdin=near, capture_output=True, timeout=SECONDS)
+        run = subprocess.run([program, command], stdin=near, capture_output=True, timeout=SECONDS)
     return run.returncode, run.stdout, run.stderr
 
 
-def with_room_for(program, given, size):
+def with_room_for(program, command, given, size):
     """How the program ends where standard output is a file that may have so many bytes. The write that passes them is cut
     short, and the next one fails."""
     def limited():
@@ -250,7 +274,7 @@ def with_room_for(program, given, size):
 
     with tempfile.TemporaryFile() as output:
         # The signal of the limit stays ignored, as it is here.
-        run = subprocess.run([program, "run"], input=given, stdout=output, stderr=subprocess.PIPE, timeout=SECONDS,
+        run = subprocess.run([program, command], input=given, stdout=output, stderr=subprocess.PIPE, timeout=SECONDS,
                              preexec_fn=limited, restore_signals=False)
         output.seek(0)
         return run.returncode, output.read(), run.stderr
@@ -266,9 +290,17 @@ def megabytes():
     return drive.image(random.Random(20261208)) + "\n".join(lines).encode()
 
 
-def in_pieces(program, given, size):
+def saved_megabytes():
+    """The same where an image of some hundred kilobytes is saved: fewer calls, each of which programs a page."""
+    drive = Drive()
+    drive.channels, drive.superblocks, drive.pages, drive.rows = 4, 64, 16, 1900
+    lines = ["trace 1 2", *(f"{n % 2} write {n * 7 % 7600} g{n}" for n in range(600))]
+    return drive.image(random.Random(20261210)) + "\n".join(lines).encode()
+
+
+def in_pieces(program, command, given, size):
     """How the program ends where each of its reads finds at most so many bytes: the next ones come once none wait."""
-    run = subprocess.Popen([program, "run"], stdin=subprocess.PIPE, stdout=subprocess.PIPE, stderr=subprocess.PIPE)
+    run = subprocess.Popen([program, command], stdin=subprocess.PIPE, stdout=subprocess.PIPE, stderr=subprocess.PIPE)
     late = time.monotonic() + SECONDS
     for at in range(0, len(given), size):
         try:

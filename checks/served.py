@@ -5,7 +5,8 @@ plain simulation.
 The simulation (`checks/simulation`) is written from the formats and rules of docs/, and shares nothing with
 the program: it reads images of both versions and traces with their first faults, and serves every call on a
 drive, with the noise of its cells, its weak blocks, the decoder of each codeword of a page, read retry,
-rounds of collection, the queue of hints and the limit of a history. It is itself compared with worked examples.
+rounds of collection, the policies, the queue of hints and the limit of a history, and saves what became of the drive. It is
+itself compared with worked examples.
 
 usage: served.py PROGRAM        (prints what differs; exits 0 where nothing does, 1 otherwise)
 """
@@ -16,7 +17,8 @@ import sys
 from collections import Counter
 
 from simulation import faulty_heads, made_inputs
-from simulation.run import CONTENTS_ARE_SERVED, saved_after, simulated
+from simulation.policies import POLICIES
+from simulation.run import saved_by, simulated
 from simulation.worked_rows import IMAGE, ROWS, TWO_CODEWORDS, changed, trace, weakened, wrong_parts
 
 top = pathlib.Path(__file__).resolve().parent.parent
@@ -70,6 +72,7 @@ NEEDED_ONCE = [
     "a drain meets the limit after a refresh", "an empty row is refreshed", "a lost row is refreshed",
     "a page is refreshed: moved", "a page is refreshed: uncorrectable", "a page is refreshed: noroom",
     "a page is refreshed: readonly", "a page is refreshed: failed",
+    "a drive is saved", "a saved drive is saved again", "a run that isn't saved meets the limit",
 ]
 
 # Whole traces, wrong or at the edge of being so.
@@ -98,6 +101,11 @@ LINES = [
 ]
 
 
+def words_of(options):
+    """The words of a command's options."""
+    return [f"--{name}={value}" for name, value in options.items()]
+
+
 class Check:
     """What differed so far, and what came up."""
 
@@ -105,18 +113,27 @@ class Check:
         self.program, self.wrong, self.events = program, [], Counter()
 
     def expect(self, what, words, given, status, output, message):
+        """Compares the end of a run, of which the due output and the due text are given in bytes or as text."""
         run = subprocess.run([self.program, *words], input=given, capture_output=True, timeout=600)
-        due = (status, output.encode(), message.encode())
+        due = (status, *[piece if isinstance(piece, bytes) else piece.encode() for piece in (output, message)])
         if (run.returncode, run.stdout, run.stderr) == due:
             return
         at = next((n for n, (a, b) in enumerate(zip(run.stdout, due[1])) if a != b), 0)
         shown = slice(max(0, at - 100), at + 100)
         self.wrong.append(
             f"{what}: status {run.returncode}, wrote {run.stderr!r} and, around byte {at}, "
-            f"{run.stdout[shown]!r}; due were {status}, {message!r} and {due[1][shown]!r}")
+            f"{run.stdout[shown]!r}; due were {status}, {due[2]!r} and {due[1][shown]!r}")
 
-    def expect_simulated(self, what, given):
-        self.expect(what, ["run"], given, *simulated(given, self.events))
+    def expect_simulated(self, what, given, **options):
+        self.expect(what, ["run", *words_of(options)], given, *simulated(given, self.events, **options))
+
+    def expect_saved(self, what, given, **options):
+        """The same of `save`. Answers the image that is due, which is empty where none is."""
+        due = saved_by(given, self.events, **options)
+        self.events["a drive is saved"] += due[0] == 0
+        self.events["a run that isn't saved meets the limit"] += due[0] == 7
+        self.expect(f"{what}, saved", ["save", *words_of(options)], given, *due)
+        return due[1]
 
     def rows(self):
         self.wrong += wrong_parts()
@@ -124,6 +141,7 @@ class Check:
             if simulated(given, Counter()) != tuple(due):
                 self.wrong.append(f"the simulation differs from the worked example: {what}")
             self.expect(what, ["run"], given, *due)
+            self.expect_saved(what, given)
 
     def example(self):
         """The stored example, its fronts, and what it is with one bit changed."""
@@ -214,17 +232,40 @@ class Check:
             self.expect_simulated(f"input {n} refreshed while room is made", image + lines)
 
     def saved_drives(self):
-        """Drives as a run left them, where the program serves images with contents."""
+        """Drives that are saved, saved again after a further trace, and served as that left them."""
         rng = random.Random(20261207)
         images = [made_inputs.quiet_image, made_inputs.weak_image, made_inputs.noisy_image, made_inputs.lossy_image]
-        for n in range(60 if CONTENTS_ARE_SERVED else 0):
+        traces = [made_inputs.collecting_trace, made_inputs.refreshing_trace, made_inputs.filling_trace]
+        for n in range(60):
             image = images[n % len(images)](rng, CODEWORDS[n // len(images) % len(CODEWORDS)])
-            traces = [made_inputs.collecting_trace, made_inputs.refreshing_trace, made_inputs.filling_trace]
-            full = saved_after(image + rng.choice(traces)(rng, image))
+            full = self.expect_saved(f"drive {n}", image + rng.choice(traces)(rng, image))
             given = full + rng.choice(traces)(rng, image)
             if n % 5 == 4:
                 given = made_inputs.damaged(rng, given)
-            self.expect_simulated(f"saved input {n}", given)
+            again = self.expect_saved(f"full drive {n}", given)
+            self.expect_simulated(f"full drive {n}", given)
+            if again:
+                self.events["a saved drive is saved again"] += 1
+                self.expect_simulated(f"drive {n} that was saved twice", again + rng.choice(traces)(rng, image))
+
+    def options(self):
+        """Drives that are full of garbage, served and saved by each policy, some of them with a
+        history that is too short."""
+        rng = random.Random(20261209)
+        for n in range(12):
+            image_of = [made_inputs.quiet_image, made_inputs.weak_image][n % 2]
+            image = image_of(rng, CODEWORDS[n // 2 % len(CODEWORDS)])
+            given = image + made_inputs.collecting_trace(rng, image)
+            for policy in POLICIES:
+                options = dict(policy=policy, history=rng.choice([2 ** 22, 2 ** 22, 256, 300, rng.randint(256, 1000)]))
+                self.expect_simulated(f"input {n} with {options}", given, **options)
+                full = self.expect_saved(f"input {n} with {options}", given, **options)
+                if full:
+                    more = full + made_inputs.collecting_trace(rng, image)
+                    self.expect_saved(f"input {n} with {options}, once more", more, **options)
+        words = [("--lanes=1", "--policy=oldest"), ("--policy=oldest", "--lanes=32"), ("--history=4194304", "--policy=oldest")]
+        for listed in words:
+            self.expect(f"the words save {listed}", ["save", *listed], given, *saved_by(given, self.events, policy="oldest"))
 
     def long_histories(self):
         """A history that fills up to its last entry, one whose last look is one entry too late, and two that end in a
@@ -233,20 +274,25 @@ class Check:
         others = ["1 trim 3"] * 224 + ["1 write 3 x", "1 age 0 2 0 7", "1 write 4 x", "1 trim 3"]
         full = made_inputs.long_history(empty * 10 + lost + others)
         self.expect_simulated("a full history", full)
-        self.expect_simulated("a look too late", made_inputs.long_history(empty * 12 + others))
+        self.expect_saved("a full history", full)
+        late = made_inputs.long_history(empty * 12 + others)
+        self.expect_simulated("a look too late", late)
+        self.expect_saved("a look too late", late)
         self.expect_simulated("a drain too late", made_inputs.long_history(empty * 11 + ["1 drain 2"]))
         self.expect_simulated("a drain that is cut", made_inputs.long_history(empty * 10 + ["1 drain 2"] + others))
 
     def words_and_devices(self):
         example = (top / "crates/ssd/stdin").read_bytes()
-        for words in ([], ["race"], ["run", "run"], ["run", "--lanes=3"], ["format", "--lanes=4"], ["gen"], [""]):
+        for words in ([], ["race"], ["run", "run"], ["run", "--lanes=3"], ["format", "--lanes=4"], ["gen"], [""],
+                      ["save", "--show=all"], ["save", "--show=summary"], ["save", "--history=255"], ["save", "--policy"],
+                      ["save", "--policy=oldest", "--policy=oldest"], ["save", "save"]):
             self.expect(f"the words {words}", words, example, 2, "", "words refused\n")
-        self.expect("a drive to save", ["save"], example, 10, "", "not built\n")
-        with open("/dev/full", "wb") as full:
-            run = subprocess.run(
-                [self.program, "run"], input=example, stdout=full, stderr=subprocess.PIPE, timeout=60)
-            if (run.returncode, run.stderr) != (6, b"write fault\n"):
-                self.wrong.append(f"a full device: status {run.returncode}, wrote {run.stderr!r}")
+        for command in ("run", "save", "format"):
+            with open("/dev/full", "wb") as full:
+                run = subprocess.run(
+                    [self.program, command], input=example, stdout=full, stderr=subprocess.PIPE, timeout=60)
+                if (run.returncode, run.stderr) != (6, b"write fault\n"):
+                    self.wrong.append(f"{command} to a full device: status {run.returncode}, wrote {run.stderr!r}")
 
 
 check = Check(sys.argv[1])
@@ -259,6 +305,7 @@ check.weak_drives()
 check.collections()
 check.refreshes()
 check.saved_drives()
+check.options()
 check.long_histories()
 check.words_and_devices()
 check.wrong += [f"never came up: {what}" for what in NEEDED_ONCE if not check.events[what]]

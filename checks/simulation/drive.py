@@ -174,8 +174,8 @@ class Ladder:
 
 
 class Channel:
-    def __init__(self, head, pages, number, limit, events):
-        self.head, self.pages, self.number, self.limit = head, pages, number, limit
+    def __init__(self, head, pages, number, policy, limit, events):
+        self.head, self.pages, self.number, self.policy, self.limit = head, pages, number, policy, limit
         self.events = events
         self.cells = Cells(head, number)
         self.lines, self.kinds = [], Counter()
@@ -299,7 +299,7 @@ class Channel:
         self.need_room(1)
         garbage = self.garbage()
         if self.victim is None and self.free and garbage:
-            self.victim = min(garbage, key=lambda sb: (-garbage[sb], sb))
+            self.victim = self.policy.picked(garbage)
             self.sealed.remove(self.victim)
             self.add(tag, "pick", self.victim)
         if self.victim is None:
@@ -357,6 +357,7 @@ class Channel:
         self.cells.erase(sb)
         self.used[sb] = 0
         self.free.append(sb)
+        self.policy.erased(sb)
         self.add(tag, "erase", sb)
         return f"collected {sb}"
 

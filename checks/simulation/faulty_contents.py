@@ -106,7 +106,7 @@ def rows():
 def wrong_contents():
     """Where the simulation differs from worked examples of contents."""
     head = b"SSDIMG02\1" + IMAGE[8:36] + b"\1" + IMAGE[37:92] + b"\1"
-    wrong = [what for what, given, *due in rows() if simulated(given, Counter(), True) != tuple(due)]
+    wrong = [what for what, given, *due in rows() if simulated(given, Counter()) != tuple(due)]
     for what, got, due in [("a blank drive is saved", saved_after(IMAGE + trace()), head + bytes(68)),
                            ("a drive is saved again", saved_after(FULL + trace()), changed(37, b"\2", FULL)),
                            ("the size of a drive that is saved after a write", len(FULL), 992),

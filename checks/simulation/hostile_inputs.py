@@ -4,7 +4,7 @@ import random
 import struct
 
 from .made_inputs import Drive
-from .run import CONTENTS_ARE_SERVED, saved_after
+from .run import saved_after
 from .worked_rows import IMAGE, TWO_CODEWORDS, versions
 
 # A page is recovered at the second level, and a drain copies it; another is recovered by its stripe, and a refresh copies it;
@@ -286,8 +286,6 @@ class Cases:
 
     def add_contents(self, image, trace, rng):
         self.add("whole, with contents", [image + trace])
-        if not CONTENTS_ARE_SERVED:
-            return
         self.add("cut, with contents", cuts(image + trace))
         self.add("a byte of a full image changed", (other + trace for other in changed_bytes(image)))
         self.add("a few bytes of contents changed", drawn_bytes(image + trace, rng))

@@ -231,7 +231,7 @@ def filling_trace(rng, image):
         lines.append(f"0 write {page} {written(rng, head)}")
         lines += [f"1 read {rng.choice(pages)}" for _ in range(rng.choice([0, 0, 1]))]
         lines += [f"1 trim {rng.choice(pages)}" for _ in range(rng.random() < 0.01)]
-    lines += [f"1 read {page}" for page in rng.sample(pages, 3)]
+    lines += [f"1 read {page}" for page in rng.sample(pages, min(len(pages), 3))]
     return text_of(rng, lines)
 
 

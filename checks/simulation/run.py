@@ -1,25 +1,24 @@
-"""What `ssd run` gives for an input: its status, its output and its text on standard error."""
+"""What the commands of `ssd` give for an input: status, output and text on standard error."""
 from collections import Counter, deque
 
 from .code import Code, Pages
 from .contents import fill, head_again, read_contents, saved
 from .drive import Channel, HistoryLimit
 from .inputs import Head, Stop, read_trace
+from .policies import POLICIES
 
 HISTORY_LIMIT = 2 ** 22
 HINTS = 256
-# Whether the program serves an image with contents, or answers that this isn't built.
-CONTENTS_ARE_SERVED = True
 
 
 class Run:
     """The calls of a trace, served in the order of its lines."""
 
-    def __init__(self, head, actors, contents, events):
+    def __init__(self, head, actors, contents, events, policy, limit):
         self.head, self.events = head, events
         pages = Pages(Code(head.lifting, head.base_rows), head.words)
         numbers = range(head.channels)
-        self.channels = [Channel(head, pages, n, HISTORY_LIMIT, events) for n in numbers]
+        self.channels = [Channel(head, pages, n, POLICIES[policy](), limit, events) for n in numbers]
         for channel, told in zip(self.channels, contents):
             fill(channel, told)
         self.replies = [[] for _ in range(actors)]
@@ -119,39 +118,57 @@ class Run:
         )
 
 
-def begun(data, events, serves_contents):
+def begun(data, events, policy="greedy", limit=HISTORY_LIMIT):
     """The run of an input before its first call, and the calls."""
     head, contents = Head(data), []
     at = head.size
     if head.full:
-        if not serves_contents:
-            raise Stop(10, "not built\n")
         contents, at = read_contents(data, head)
     actors, calls = read_trace(head, data[at:])
-    return Run(head, actors, contents, events), calls
+    return Run(head, actors, contents, events, policy, limit), calls
 
 
-def simulated(data, events, serves_contents=CONTENTS_ARE_SERVED):
-    """The status, the output and the text on standard error. `events` counts what came up."""
-    try:
-        run, calls = begun(data, events, serves_contents)
-    except Stop as stop:
-        return stop.status, "", stop.text
+def served(data, events, policy, limit):
+    """The run of an input at its end, and what stopped it before its last call, or None."""
+    run, calls = begun(data, events, policy, limit)
     try:
         for call in calls:
             run.serve(call)
     except HistoryLimit as stop:
         events["history limit"] += 1
-        return 7, run.text(), f"history limit on channel {stop.channel} at {stop.length}\n"
+        return run, stop
     finally:
         events["hints pushed"] += run.pushed
         events["hints dropped"] += run.dropped
         events["hints taken"] += run.taken
-    return 0, run.text(), ""
+    return run, None
+
+
+def told(stop):
+    """The text on standard error where the limit of a history stopped a run."""
+    return f"history limit on channel {stop.channel} at {stop.length}\n"
+
+
+def simulated(data, events, policy="greedy", history=HISTORY_LIMIT):
+    """The status, the output and the text on standard error of `ssd run`. `events` counts what came up."""
+    try:
+        run, stopped = served(data, events, policy, history)
+    except Stop as stop:
+        return stop.status, "", stop.text
+    return (0, run.text(), "") if stopped is None else (7, run.text(), told(stopped))
+
+
+def saved_by(data, events, policy="greedy", history=HISTORY_LIMIT):
+    """The same of `ssd save`, all in bytes. A run that was stopped is not saved."""
+    try:
+        run, stopped = served(data, events, policy, history)
+    except Stop as stop:
+        return stop.status, b"", stop.text.encode()
+    return (0, saved(data, run), b"") if stopped is None else (7, b"", told(stopped).encode())
 
 
 def formatted(data):
-    """The status, the output and the text on standard error of `ssd format`."""
+    """The same of `ssd format`."""
     try:
         head = Head(data)
         if head.full:
@@ -163,7 +180,7 @@ def formatted(data):
 
 def saved_after(data, change=lambda run: None):
     """The full image of the drive after all calls of an input, and after a change of the run."""
-    run, calls = begun(data, Counter(), True)
+    run, calls = begun(data, Counter())
     for call in calls:
         run.serve(call)
     change(run)

@@ -16,4 +16,6 @@ mod read_retry;
 #[cfg(test)]
 mod rows;
 #[cfg(test)]
+mod saves;
+#[cfg(test)]
 mod tried_die;

@@ -1,4 +1,4 @@
-//! Runs that were worked out by hand, what isn't served, and what a failing sink gets.
+//! Runs that were worked out by hand, what is refused, and what a failing sink gets.
 use crate::drives::{SAME, outcome};
 use image_file::ImageFault;
 use ssd_top::{Status, status_text};
@@ -6,6 +6,11 @@ use std::test::Fail;
 use trace_text::TraceFault;
 
 const TRACE: &[u8] = b"trace 1 1\n0 write 5 x0102\n0 read 5\n";
+
+// A write to the page behind the last, and one of half a byte.
+const BEHIND: &[u8] = b"trace 1 1\n0 write 8 x00\n";
+
+const HALVED: &[u8] = b"trace 1 1\n0 write 1 x0\n";
 
 const ONE_PAGE: &str = "channel 0 4
 0 0.0 write 5 0.0
@@ -248,11 +253,14 @@ fn trace(line: u64, fault: TraceFault) -> Status {
     Status::Trace { line, fault }
 }
 
-// What isn't served: refused words, faults, and what isn't built. Nothing is written.
+// What isn't served: refused words and faults. Nothing is written.
 #[test]
 fn what_is_not_served_writes_nothing(rt: HostRuntime) -> Result<(), Fail> {
-    let table: [(&str, (usize, u8), &[u8], u64, Status); 19] = [
-        ("save", SAME, TRACE, 0, Status::NotBuilt),
+    let table: [(&str, (usize, u8), &[u8], u64, Status); 22] = [
+        ("save --show=all", SAME, TRACE, 0, Status::Words),
+        ("save", SAME, TRACE, 1, Status::ReadFault),
+        ("save", (92, 1), b"", 0, image(93, ImageFault::Short)),
+        ("save", SAME, b"", 0, trace(1, TraceFault::First)),
         ("race", SAME, TRACE, 0, Status::Words),
         ("race --show=summary", SAME, TRACE, 0, Status::Words),
         ("run --lanes=3", SAME, TRACE, 0, Status::Words),
@@ -267,20 +275,8 @@ fn what_is_not_served_writes_nothing(rt: HostRuntime) -> Result<(), Fail> {
         ("run", (8, 0), TRACE, 0, image(8, ImageFault::Range)),
         ("run", (60, 1), TRACE, 0, image(60, ImageFault::Diagonal)),
         ("run", SAME, b"", 0, trace(1, TraceFault::First)),
-        (
-            "run",
-            SAME,
-            b"trace 1 1\n0 write 8 x00\n",
-            0,
-            trace(2, TraceFault::Range),
-        ),
-        (
-            "run",
-            SAME,
-            b"trace 1 1\n0 write 1 x0\n",
-            0,
-            trace(2, TraceFault::Data),
-        ),
+        ("run", SAME, BEHIND, 0, trace(2, TraceFault::Range)),
+        ("run", SAME, HALVED, 0, trace(2, TraceFault::Data)),
         ("run", (92, 1), b"", 0, image(93, ImageFault::Short)),
         ("run", (49, 0x80), TRACE, 0, image(48, ImageFault::Range)),
     ];
@@ -319,7 +315,6 @@ fn each_status_has_its_number_and_text(rt: HostRuntime) -> Result<(), Fail> {
         ),
         (Status::OutOfMemory, 8, "out of memory\n"),
         (Status::DieFailed { die: 63 }, 9, "die 63 failed\n"),
-        (Status::NotBuilt, 10, "not built\n"),
     ];
     for (status, number, want) in table {
         let mut text = Vec::new(rt.alloc());

@@ -1,7 +1,7 @@
 -- What is read of an input: the head of its image, what follows of each channel, and then the trace. The first that has a fault is
 -- the input's.
-use Rattle.std.proofs.Common.{◌≡◌, ap, ◌∙◌, refl, ℕ, List, [], Ok, Err, Result}
-use Rattle.ssd_formats.specs.Fields.{Rest, Reading, ◌>>=◌}
+use Rattle.std.proofs.Common.{◌≡◌, ap, ◌∙◌, ℕ, List, [], Ok, Err, Result}
+use Rattle.ssd_formats.specs.Fields.{Rest, Reading}
 use Rattle.ssd_formats.specs.ImageContents.{ChannelImage, read_channels, read_image}
 use Rattle.ssd_formats.specs.ImageHead.{Head, read_head}
 use Rattle.ssd_formats.specs.Input.{at_image, at_trace, read_input}

@@ -5,12 +5,15 @@ pub mod EndedChannels
 pub mod FaultTexts
 pub mod FittingTraces
 pub mod GivenDies
+pub mod LeftParts
 pub mod MountedInputs
 pub mod PrintedRuns
 pub mod PrintedText
 pub mod ReadInputs
 pub mod RunningCalls
 pub mod SavedInputs
+pub mod SavedParts
+pub mod SavedRuns
 pub mod ServedChannels
 pub mod ServedEnds
 pub mod ServedRuns

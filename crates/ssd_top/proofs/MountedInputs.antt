@@ -23,9 +23,9 @@ use Rattle.ssd_geo.specs.declared.policy_view.PolicyView.{PolicyView}
 use Rattle.trace_text.specs.declared.fault.TraceFault.{TraceFault}
 use Rattle.ssd_top.specs.HandedBack.{AllCountNone, AllCountRuns, AreHandedBack, CountsRun}
 use Rattle.ssd_top.specs.Serving.{AreGivenBack, HasServed, IsCausedByTold, IsOfInput, IsStop, ServesInput, WasRead, status_of_image, status_of_mount, status_of_trace}
-use Rattle.ssd_top.specs.declared.printed.Printed.{Printed}
+use Rattle.ssd_top.specs.declared.served.Served.{Served}
 use Rattle.ssd_top.specs.declared.status.Status.{Status}
-use Rattle.ssd_top.specs.declared.status.Status.TheVariants.{Done, Words, Image, Trace, ReadFault, WriteFault, HistoryLimit, OutOfMemory, DieFailed, NotBuilt}
+use Rattle.ssd_top.specs.declared.status.Status.TheVariants.{Done, Words, Image, Trace, ReadFault, WriteFault, HistoryLimit, OutOfMemory, DieFailed}
 
 -- what became of a die in loads after its mount
 record IsLoadedAfter {X F : Type 0} (result : Result X (ReadStop F)) (number : ℕ) (old new : DieState) : Type 0 where
@@ -145,11 +145,11 @@ behind input dies = drop (input.head.sizes.channels * input.head.sizes.dies) die
 
 -- a run over mounted dies is one over those that were handed in
 of_handed : (input : Input) (settings : Settings) (olds mounted : List DieState) (views : List (Option PolicyView))
-    (back : List DieState) (printed : Printed)
+    (back : List DieState) (served : Served)
     → counts_of mounted ≡ counts_of olds
     → behind input mounted ≡ behind input olds
-    → IsOfInput input settings mounted views back printed → IsOfInput input settings olds views back printed
-of_handed input settings olds mounted views back printed counts others is = record {
+    → IsOfInput input settings mounted views back served → IsOfInput input settings olds views back served
+of_handed input settings olds mounted views back served counts others is = record {
   printable = is.printable;
   run = is.run;
   is_run = record {
@@ -164,12 +164,15 @@ of_handed input settings olds mounted views back printed counts others is = reco
   complete = is.complete;
   ends = is.ends;
   is_text = is.is_text;
+  is_head = is.is_head;
+  head_is = is.head_is;
+  leaves = is.leaves;
 }
 
 module _ (input : Input) (settings : Settings) (olds mounted : List DieState) (views : List (Option PolicyView))
     (back : List DieState) where
   -- what is printed of it is of it
-  pub has_served : (before after : Option (List ℕ)) (outcome : Result Printed Status) → WasRead before after input
+  pub has_served : (before after : Option (List ℕ)) (outcome : Result Served Status) → WasRead before after input
       → counts_of mounted ≡ counts_of olds
       → behind input mounted ≡ behind input olds
       → ServesInput input settings mounted views back outcome → IfOk outcome (HasServed before after settings olds views back)
@@ -181,11 +184,10 @@ module _ (input : Input) (settings : Settings) (olds mounted : List DieState) (v
   has_served before after (Err status) was_read counts others served = tt
 
   -- where it stopped, the source had failed in no read
-  pub is_stop : (before now : ℕ) (outcome : Result Printed Status) → now ≡ before
+  pub is_stop : (before now : ℕ) (outcome : Result Served Status) → now ≡ before
       → ServesInput input settings mounted views back outcome
       → IfErr outcome (IsStop before now)
   is_stop before now (Ok printed) same served = tt
-  is_stop before now (Err NotBuilt) same served = absurd served
   is_stop before now (Err OutOfMemory) same served = same
   is_stop before now (Err Done) same served = absurd served
   is_stop before now (Err Words) same served = absurd served
@@ -197,11 +199,10 @@ module _ (input : Input) (settings : Settings) (olds mounted : List DieState) (v
   is_stop before now (Err (DieFailed die)) same served = absurd served
 
   -- and it is no stop that has its cause in the source's bytes
-  pub is_caused : (before : Option (List ℕ)) (outcome : Result Printed Status)
+  pub is_caused : (before : Option (List ℕ)) (outcome : Result Served Status)
       → ServesInput input settings mounted views back outcome
       → IfErr outcome (IsCausedByTold before)
   is_caused before (Ok printed) served = tt
-  is_caused before (Err NotBuilt) served = absurd served
   is_caused None (Err OutOfMemory) served = tt
   is_caused (Some bytes) (Err OutOfMemory) served = tt
   is_caused before (Err Done) served = absurd served
@@ -214,11 +215,10 @@ module _ (input : Input) (settings : Settings) (olds mounted : List DieState) (v
   is_caused before (Err (DieFailed die)) served = absurd served
 
   -- the dies took part in a run, or memory was refused
-  pub are_given_back : (outcome : Result Printed Status) → AllCountNone olds mounted
+  pub are_given_back : (outcome : Result Served Status) → AllCountNone olds mounted
       → ServesInput input settings mounted views back outcome
       → AreGivenBack outcome olds back
   are_given_back (Ok printed) none served = runs_after_mounts olds mounted back none served.1
-  are_given_back (Err NotBuilt) none served = absurd served
   are_given_back (Err OutOfMemory) none served = tt
   are_given_back (Err Done) none served = absurd served
   are_given_back (Err Words) none served = absurd served

@@ -10,9 +10,9 @@ use Rattle.ssd_geo.specs.declared.policy_view.PolicyView.{PolicyView}
 use Rattle.ssd_top.specs.Printed.{status_after, text_of}
 use Rattle.ssd_top.specs.Commands.{PrintsRun}
 use Rattle.ssd_top.specs.HandedBack.{AllCountRuns, AreHandedBack}
-use Rattle.ssd_top.specs.Serving.{EndsAt, Ends, HasServed, IsCausedByTold}
-use Rattle.ssd_top.specs.declared.printed.Printed.{Printed}
-use Rattle.ssd_top.specs.declared.status.Status.TheVariants.{Done, HistoryLimit, NotBuilt, Words, WriteFault}
+use Rattle.ssd_top.specs.Serving.{EndsAt, Ends, HasServed, IsCausedByTold, IsSilent}
+use Rattle.ssd_top.specs.declared.served.Served.{Served}
+use Rattle.ssd_top.specs.declared.status.Status.TheVariants.{Done, HistoryLimit, Words, WriteFault}
 
 pub was_whole : (stop : Option (ℕ × ℕ)) → status_after stop ≡ Done → stop ≡ None
 was_whole None is = refl
@@ -30,9 +30,10 @@ pub is_no_refusal : (stop : Option (ℕ × ℕ)) → status_after stop ≡ Words
 is_no_refusal None is = absurd (cc)
 is_no_refusal (Some stop) is = absurd (cc)
 
-pub is_no_unbuilt : (stop : Option (ℕ × ℕ)) → status_after stop ≡ NotBuilt → ⊥
-is_no_unbuilt None is = absurd (cc)
-is_no_unbuilt (Some stop) is = absurd (cc)
+-- what was printed is no silence
+pub run_isnt_silent : (stop : Option (ℕ × ℕ)) → IsSilent (status_after stop) → ⊥
+run_isnt_silent None silent = silent
+run_isnt_silent (Some stop) silent = silent
 
 -- the dies took part in a run, however it ended
 pub run_hands_back : (stop : Option (ℕ × ℕ)) (olds news : List DieState) → AllCountRuns olds news
@@ -52,8 +53,8 @@ write_fault_is_caused (Some bytes) = tt
 
 -- what was served and printed is a run of the input: a whole one, one that stopped, or either
 module _ (settings : Settings) (before after : Option (List ℕ)) (dies : List DieState) (views : List (Option PolicyView))
-    (back : List DieState) (printed : Printed) (has : HasServed before after settings dies views back printed)
-    (IsPrinted : Text → Type 0) (is_printed : IsPrinted (text_of printed)) where
+    (back : List DieState) (served : Served) (has : HasServed before after settings dies views back served)
+    (IsPrinted : Text → Type 0) (is_printed : IsPrinted (text_of served.printed)) where
   abbrev Prints : (Head → Run → Type 0) → Type 0
   Prints Ended = PrintsRun settings before after dies views back Ended IsPrinted
 
@@ -61,7 +62,7 @@ module _ (settings : Settings) (before after : Option (List ℕ)) (dies : List D
   prints Ended ended = record {
     asked = has.asked;
     run = has.of_input.run;
-    text = text_of printed;
+    text = text_of served.printed;
     was_read = has.was_read;
     is_run = has.of_input.is_run;
     headline = has.of_input.headline;
@@ -71,15 +72,15 @@ module _ (settings : Settings) (before after : Option (List ℕ)) (dies : List D
     is_printed = is_printed;
   }
 
-  pub prints_whole : printed.full ≡ None → Prints IsWholeRun
+  pub prints_whole : served.printed.full ≡ None → Prints IsWholeRun
   prints_whole full =
       prints IsWholeRun (subst (EndsAt has.asked.head has.of_input.run) full has.of_input.ends)
 
-  pub prints_stopped : (channel entries : ℕ) → printed.full ≡ Some (channel, entries)
+  pub prints_stopped : (channel entries : ℕ) → served.printed.full ≡ Some (channel, entries)
       → Prints (λ head run. IsStoppedRun head run channel entries)
   prints_stopped channel entries full =
       prints (λ head run. IsStoppedRun head run channel entries)
       (subst (EndsAt has.asked.head has.of_input.run) full has.of_input.ends)
 
   pub prints_some : Prints Ends
-  prints_some = prints Ends (printed.full, has.of_input.ends)
+  prints_some = prints Ends (served.printed.full, has.of_input.ends)

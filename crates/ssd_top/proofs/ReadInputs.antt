@@ -27,7 +27,7 @@ use Rattle.ssd_top.proofs.DriveInputs as Drive
 use Rattle.ssd_top.specs.Loading.{AreReadFrom, StopsContents, StopsNoTrace}
 use Rattle.ssd_top.specs.Serving.{IsCausedByTold, IsStop, status_of_image, status_of_mount, status_of_trace}
 use Rattle.ssd_top.specs.declared.status.Status.{Status}
-use Rattle.ssd_top.specs.declared.status.Status.TheVariants.{Done, Words, Image as FaultOfImage, Trace as TraceStatus, ReadFault as ReadFaultStatus, WriteFault, HistoryLimit, OutOfMemory, DieFailed as DieFailedStatus, NotBuilt}
+use Rattle.ssd_top.specs.declared.status.Status.TheVariants.{Done, Words, Image as FaultOfImage, Trace as TraceStatus, ReadFault as ReadFaultStatus, WriteFault, HistoryLimit, OutOfMemory, DieFailed as DieFailedStatus}
 
 -- a stop of the head has its cause in the bytes
 pub image_caused : (before left : Option (List ℕ)) (stop : ReadStop ImageFault) → ReadsHead before left (Err stop)
@@ -54,7 +54,6 @@ contents_caused (Some bytes) (Some rest) head Words reads stops = absurd (stops 
 contents_caused (Some bytes) (Some rest) head (TraceStatus line fault) reads stops = absurd (stops tt)
 contents_caused (Some bytes) (Some rest) head WriteFault reads stops = absurd (stops tt)
 contents_caused (Some bytes) (Some rest) head (HistoryLimit channel entries) reads stops = absurd (stops tt)
-contents_caused (Some bytes) (Some rest) head NotBuilt reads stops = absurd (stops tt)
 
 -- a mount or a load that failed is such a status
 pub mount_stops : (head : Head) (rest : Rest) (stop : MountStop) → StopsContents head rest (status_of_mount stop)

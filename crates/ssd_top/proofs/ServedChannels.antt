@@ -199,7 +199,7 @@ module _ (head : Head) (saved : ℕ → ChannelImage) (asked : Trace) (limit : �
           ∙ ap (λ (n : ℕ). flat_map dies_in channels ++ drop (n * head.sizes.dies) dies) (sym many_channels)
 
       -- those of each channel in their place
-      dies_back : (n : ℕ) (channel : SeenChannel) → slice_get channels n ≡ Some channel
+      pub dies_back : (n : ℕ) (channel : SeenChannel) → slice_get channels n ≡ Some channel
           → dies_of_channel head.sizes.dies back n ≡ channel.kept.dies
       dies_back n channel has_channel =
           ap (λ (all : List DieState). take head.sizes.dies (drop (n * head.sizes.dies) all)) give.back_are

@@ -1,7 +1,9 @@
 -- How the calls of an input ended, by what they led its channels to and what these gave back.
-use Rattle.std.proofs.Common.{ℕ, ◌≡◌, ◌≤◌, List, [], ◌++◌, All, drop, flat_map, length, map, replicate, Option, Ok, refl, subst}
+use Rattle.std.proofs.Common.{ℕ, ◌≡◌, ◌≤◌, List, [], ◌++◌, All, drop, flat_map, length, map, replicate, Option, Ok, refl, sym, subst, ◌∙◌}
+use Rattle.std.proofs.lemmas.List.Elements.{All-map}
+use Rattle.std.proofs.lemmas.Simd.{map-map}
 use Rattle.chan_calls.specs.Workers.{WorkerState}
-use Rattle.chan_state.specs.ChannelState.{ChannelState}
+use Rattle.chan_state.specs.ChannelState.{ChannelState, EndsWhole, parts_of}
 use Rattle.ctl.specs.Seen.{SeenChannel, seen}
 use Rattle.drive_dies.specs.Mounting.{die_count}
 use Rattle.onfi_cmd.specs.DieState.{DieState}
@@ -19,7 +21,7 @@ use Rattle.ssd_top.proofs.ServedRuns.{IsSavedAs, served_dies_count, served_is_of
 use Rattle.ssd_top.specs.Forms.{input_of}
 use Rattle.ssd_top.specs.Running.{IsRunning, Job}
 use Rattle.ssd_top.specs.Serving.{IsMadeOf, IsServed, LeadsTo, RunsToEnd, ServesInput, job_of}
-use Rattle.ssd_top.specs.declared.printed.Printed.{Printed}
+use Rattle.ssd_top.specs.declared.served.Served.{Served}
 use Rattle.ssd_top.specs.declared.serving.Answered.{Answered}
 
 -- a worker served the calls of a trace on channels that a run began with, and these came to be these items; then they gave back
@@ -44,22 +46,27 @@ module _ {A X : Type 0} (old written items : List A) (dies left back : List X) (
   channels_in list = map (λ item. seen (kept item) (view item)) list
 
   -- all calls were answered, or those before a stop, and this is to be printed
-  pub serves : (histories : List (List Entry)) (answered : Answered) (printed : Printed)
+  pub serves : (histories : List (List Entry)) (answered : Answered) (served : Served)
       → histories ≡ map (λ item. history_of (kept item).past) items
-      → RunsToEnd worker (channels_in old) (channels_in written) trace answered → IsMadeOf settings.whole head trace histories answered printed
-      → ServesInput input settings (map state dies) views (map state back) (Ok printed)
-  serves histories answered printed histories_are runs made =
+      → served.parts.items ≡ map (λ item. parts_of (kept item)) items → All (λ item. EndsWhole (kept item)) items
+      → RunsToEnd worker (channels_in old) (channels_in written) trace answered → IsMadeOf settings.whole head trace histories answered served.printed
+      → ServesInput input settings (map state dies) views (map state back) (Ok served)
+  serves histories answered served histories_are parts_are whole runs made =
       let leads : LeadsTo job worker (channels_in items) (map (λ list. list.items) answered.replies.items) answered.dropped
       answered.full =
       subst (λ (list : List A). LeadsTo job worker (channels_in list) (map (λ list. list.items) answered.replies.items)
       answered.dropped answered.full)
       same (runs job refl running) in
-      let served : IsServed input settings.history (map state dies) views (map state back) histories answered =
+      let is_served : IsServed input settings.history (map state dies) views (map state back) histories served.parts.items
+      answered =
       record {
         worker = worker;
         channels = channels_in items;
         leads = leads;
         histories_are = histories_of kept view state items histories histories_are;
+        parts_are =
+            parts_are ∙ sym (map-map (λ (channel : SeenChannel). parts_of channel.kept) (λ item. seen (kept item) (view item)) items);
+        whole = All-map (λ (channel : SeenChannel). EndsWhole channel.kept) (λ item. seen (kept item) (view item)) items whole;
         give_back =
             gave_back kept view state (head_of head) items dies left back
             (count_of_led job worker (channels_in items) (map (λ list. list.items) answered.replies.items) answered.dropped
@@ -67,6 +74,7 @@ module _ {A X : Type 0} (old written items : List A) (dies left back : List X) (
             all left_are
             back_are;
       } in (
-        served_is_of_input head saved saved_as settings trace (map state dies) views (map state back) histories answered printed is_head served made,
-        served_dies_count head saved settings.history trace (map state dies) views (map state back) histories answered enough served,
+        served_is_of_input head saved saved_as settings trace (map state dies) views (map state back) histories answered served is_head is_served made,
+        served_dies_count head saved settings.history trace (map state dies) views (map state back) histories served.parts.items
+            answered enough is_served,
       )

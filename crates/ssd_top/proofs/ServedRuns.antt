@@ -7,6 +7,7 @@ use Rattle.std.proofs.lemmas.List.Elements.{All-cons, All-nil, All-weaker}
 use Rattle.std.specs.List.{range_with_len}
 use Rattle.std.specs.Prelude.{All, IsTrue, slice_get, slice_index_or}
 use Rattle.chan_calls.specs.Workers.{WorkerState}
+use Rattle.chan_state.specs.declared.parts.BaseParts.{BaseParts}
 use Rattle.complete_runs.proofs.CompleteRuns.{runs_are_complete}
 use Rattle.complete_runs.specs.BlankRuns.{BeginsBlank}
 use Rattle.ctl.specs.Asked.{FitsDrive}
@@ -19,7 +20,7 @@ use Rattle.run_laws.proofs.SerialHeadline.{serial_runs_hold}
 use Rattle.run_laws.proofs.StoppedRuns.{stopped_calls_hold}
 use Rattle.run_laws.specs.HandedCounts.{IsRunOver, counts_by_channel, handed_by_channel}
 use Rattle.run_laws.specs.Headline.{Headline}
-use Rattle.run_laws.specs.Runs.{FaultCounts, Run, runs_with}
+use Rattle.run_laws.specs.Runs.{FaultCounts, Run, data_in, runs_with}
 use Rattle.run_laws.specs.Starts.{BeginsWith}
 use Rattle.run_laws.specs.SerialRuns.{ChannelsHold, HasCalls, IsHeadlineOfStop, IsHeadlineOfWhole}
 use Rattle.run_laws.specs.ServedRuns.{HasLedTo, IsServedFrom, contents_in, hints_in, run_of_input, taken_in}
@@ -43,8 +44,10 @@ use Rattle.ssd_geo.specs.declared.entry.Entry.{Entry}
 use Rattle.ssd_geo.specs.declared.head.ImageHead.{ImageHead}
 use Rattle.ssd_geo.specs.declared.policy_view.PolicyView.{PolicyView}
 use Rattle.ssd_geo.specs.declared.reply.Reply.{Reply}
+use Rattle.ssd_geo.specs.declared.shape.Shape.{Shape}
 use Rattle.ssd_geo.specs.declared.trace.Trace.{Trace}
 use Rattle.ssd_geo.specs.declared.trace.TraceCall.{TraceCall}
+use Rattle.ssd_top.proofs.LeftParts.{leaves}
 use Rattle.ssd_top.proofs.ServedChannels.{StandInRun, are_counted, dies_count, hold_pasts, others_stay}
 use Rattle.ssd_top.proofs.ServedVerbs.{small_verb}
 use Rattle.ssd_top.specs.Forms.{input_of}
@@ -53,7 +56,9 @@ use Rattle.ssd_top.specs.HandedBack.{AllCountRuns}
 use Rattle.ssd_top.specs.Printed.{shown_text, text_of}
 use Rattle.ssd_top.specs.Running.{HasStopped, HaveFoundRoom, IsRunning, Job}
 use Rattle.ssd_top.specs.Serving.{EndsAt, GiveBack, IsMadeOf, IsOfInput, IsServed, LeadsTo, job_of}
+use Rattle.ssd_top.specs.LeftDrives.{LeavesDrive}
 use Rattle.ssd_top.specs.declared.printed.Printed.{Printed}
+use Rattle.ssd_top.specs.declared.served.Served.{Served}
 use Rattle.ssd_top.specs.declared.serving.Answered.{Answered}
 
 -- ---- the lists of replies
@@ -222,8 +227,14 @@ module _ (head : Head) (saved : ℕ → ChannelImage) (asked : Trace) (limit : �
   -- calls that were served have replies that fit them, and are a run of the input, whose text is that
   record IsOfRun (channels : List SeenChannel) (back : List DieState) (replies : List (List Reply)) (dropped : ℕ)
       (stop : Option (ℕ × ℕ)) : Type 0 where
+    worker : WorkerState
+    starts : List Start
+    stand : StandInRun head saved asked limit dies views worker channels starts
     fits : FitsCalls input replies dropped
     run : Run
+    starts_are : run.starts ≡ starts
+    pasts_are : run.pasts ≡ pasts_of channels
+    data_are : data_in head run ≡ contents_in input
     is_run : IsRunOf input limit dies views back run
     some_channel : 0 < length run.starts
     calls_are : HasCalls head run
@@ -248,6 +259,12 @@ module _ (head : Head) (saved : ℕ → ChannelImage) (asked : Trace) (limit : �
       running.serials)
       served.is_serial in
       record {
+        worker = worker;
+        starts = running.starts;
+        stand = stand;
+        starts_are = refl;
+        pasts_are = refl;
+        data_are = refl;
         fits =
             led_fits input running.starts asked.calls [] replies (pasts_of channels) hints dropped (sym (append-nil asked.calls))
             running.has_led_to;
@@ -277,6 +294,12 @@ module _ (head : Head) (saved : ℕ → ChannelImage) (asked : Trace) (limit : �
       (hold worker channels running.starts stand back give replies dropped stopped.have_room few running.serials)
       stopped.are_calls running.has_led_to stopped.stops in
       record {
+        worker = worker;
+        starts = running.starts;
+        stand = stand;
+        starts_are = refl;
+        pasts_are = refl;
+        data_are = refl;
         fits =
             led_fits input running.starts stopped.done (stopped.call ∷ stopped.rest) replies (pasts_of stopped.old) stopped.hints
             dropped stopped.are_calls running.has_led_to;
@@ -347,11 +370,12 @@ begins_blank head saved saved_as asked limit before after views run is_head over
 -- what was served of an input and is to be printed is of a run of it
 pub served_is_of_input : (head : ImageHead) (saved : ℕ → ChannelImage) → IsSavedAs (head_of head) saved → (settings : Settings)
     (asked : Trace) (dies : List DieState) (views : List (Option PolicyView)) (back : List DieState)
-    (histories : List (List Entry)) (answered : Answered) (printed : Printed) → IsHead (head_of head)
-    → IsServed (input_of (head_of head) saved asked) settings.history dies views back histories answered
-    → IsMadeOf settings.whole head asked histories answered printed
-    → IsOfInput (input_of (head_of head) saved asked) settings dies views back printed
-served_is_of_input head saved saved_as settings asked dies views back histories answered printed is_head served made =
+    (histories : List (List Entry)) (answered : Answered) (result : Served) → IsHead (head_of head)
+    → IsServed (input_of (head_of head) saved asked) settings.history dies views back histories result.parts.items answered
+    → IsMadeOf settings.whole head asked histories answered result.printed
+    → IsOfInput (input_of (head_of head) saved asked) settings dies views back result
+served_is_of_input head saved saved_as settings asked dies views back histories answered result is_head served made =
+    let printed : Printed = result.printed in
     let replies : List (List Reply) = map (λ list. list.items) answered.replies.items in
     let of =
     is_of_run (head_of head) saved asked settings.history dies views served.worker served.channels back served.give_back replies
@@ -382,12 +406,21 @@ served_is_of_input head saved saved_as settings asked dies views back histories 
           of.calls_are of.headline;
       ends = subst (λ (other : Option (ℕ × ℕ)). EndsAt (head_of head) of.run other) (sym made.full_is) of.ends;
       is_text = sym text ∙ of.is_text settings.whole;
+      is_head = subst (λ (other : ImageHead). IsHead (head_of other)) (sym made.head_is) is_head;
+      head_is = ap head_of made.head_is;
+      leaves =
+          subst (λ (shape : Shape). LeavesDrive (head_of head) shape of.run result.parts.items back)
+          (sym (ap (λ (other : ImageHead). other.shape) made.head_is))
+          (subst (λ (parts : List BaseParts). LeavesDrive (head_of head) head.shape of.run parts back) (sym served.parts_are)
+          (leaves head saved asked settings.history dies views of.worker served.channels of.starts of.stand back served.give_back
+          served.whole of.run of.starts_are of.pasts_are of.data_are));
     }
 
 -- each die counts as one that took part in a run
 pub served_dies_count : (head : ImageHead) (saved : ℕ → ChannelImage) (limit : ℕ) (asked : Trace) (dies : List DieState) (views : List (Option PolicyView))
-    (back : List DieState) (histories : List (List Entry)) (answered : Answered) → die_count head ≤ length dies
-    → IsServed (input_of (head_of head) saved asked) limit dies views back histories answered → AllCountRuns dies back
-served_dies_count head saved limit asked dies views back histories answered enough served =
+    (back : List DieState) (histories : List (List Entry)) (parts : List BaseParts) (answered : Answered)
+    → die_count head ≤ length dies
+    → IsServed (input_of (head_of head) saved asked) limit dies views back histories parts answered → AllCountRuns dies back
+served_dies_count head saved limit asked dies views back histories parts answered enough served =
     dies_count_served (head_of head) saved asked limit dies views served.worker served.channels back served.give_back enough
     (map (λ list. list.items) answered.replies.items) answered.dropped answered.full served.leads

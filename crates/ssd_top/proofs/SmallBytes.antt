@@ -1,5 +1,5 @@
 -- The bytes of a page's payload and those of its word are small.
-use Rattle.std.proofs.Common.{ℕ, zero, suc, ◌+◌, ◌-◌, ◌<◌, ◌++◌, get_or, replicate, List, [], ◌∷◌, length, arith}
+use Rattle.std.proofs.Common.{ℕ, zero, suc, ◌+◌, ◌-◌, ◌<◌, ◌++◌, replicate, List, [], ◌∷◌, length, arith}
 use Rattle.std.specs.List.{AllByRecursion}
 use Rattle.ssd_geo.specs.PageHead.{head_of_page, payload_of_page}
 

@@ -13,19 +13,19 @@ use Rattle.ssd_formats.specs.Fields.{Rest}
 use Rattle.ssd_formats.specs.ImageContents.{ChannelImage, read_image}
 use Rattle.ssd_formats.specs.ImageHead.{Head, IsHead, head_bytes, head_of, with_next_session}
 use Rattle.ssd_formats.specs.Numbers.{Text}
-use Rattle.ssd_formats.specs.Words.{Command, Settings, command_of, gen, run}
+use Rattle.ssd_formats.specs.Words.{Command, Settings, command_of, gen, run, save}
 use Rattle.ssd_geo.specs.declared.head.ImageHead.{ImageHead}
 use Rattle.ssd_geo.specs.Faults.{Rose, RoseBy, greatest_count}
 use Rattle.ssd_top.proofs.DriveInputs.{image_read}
 use Rattle.ssd_top.proofs.ServedChannels.{same_counts_run, stays_at}
-use Rattle.ssd_top.specs.Commands.{AreLoadedBack, IsFormatted, IsImageOf, IsWritten, are_loading, are_run, are_save, loads_drive, saves_drive, serves_trace}
+use Rattle.ssd_top.specs.Commands.{AreLoadedBack, IsFormatted, IsImageOf, IsWritten, are_loading, are_save, are_serving, loads_drive, saves_drive, serves_trace}
 use Rattle.ssd_top.specs.Commands.{takes_command, takes_words}
 use Rattle.ssd_top.specs.Loading.{AreReadFrom, StopsNoTrace}
 use Rattle.ssd_top.specs.HandedBack.{AllCountNone, AllCountRuns, AreHandedBack}
 use Rattle.ssd_top.specs.Serving.{IsCausedByTold, IsSilent, IsStop, status_of_image}
 use Rattle.trace_text.specs.declared.fault.TraceFault.{TraceFault}
 use Rattle.ssd_top.specs.declared.status.Status.{Status}
-use Rattle.ssd_top.specs.declared.status.Status.TheVariants.{Done, Words, Image, Trace, ReadFault, WriteFault, HistoryLimit, OutOfMemory, DieFailed, NotBuilt}
+use Rattle.ssd_top.specs.declared.status.Status.TheVariants.{Done, Words, Image, Trace, ReadFault, WriteFault, HistoryLimit, OutOfMemory, DieFailed}
 
 -- ---- the words of a command
 
@@ -33,7 +33,7 @@ use Rattle.ssd_top.specs.declared.status.Status.TheVariants.{Done, Words, Image,
 pub words_take : (command : Command) (words : List Text) → Some command ≡ command_of words → takes_words words ≡ takes_command command
 words_take command words is = rw (← is) refl
 
-pub words_run : (command : Command) (words : List Text) → Some command ≡ command_of words → are_run words ≡ serves_trace command
+pub words_run : (command : Command) (words : List Text) → Some command ≡ command_of words → are_serving words ≡ serves_trace command
 words_run command words is = rw (← is) refl
 
 pub words_load : (command : Command) (words : List Text) → Some command ≡ command_of words → are_loading words ≡ loads_drive command
@@ -56,11 +56,18 @@ one_command given command words is other = let same : Some given ≡ Some comman
 pub no_words : {A : Type 0} (command : Command) (words : List Text) → None ≡ command_of words → command_of words ≡ Some command → A
 no_words command words is other = let same : None ≡ Some command = is ∙ other in absurd (cc)
 
--- what is said of the settings of a run is said of those that the words give
+-- what is said of the settings of a run, or of a drive to save, is said of those that the words give
 pub of_settings : (P : Settings → Type 0) (settings : Settings) (words : List Text) → Some (run settings) ≡ command_of words
     → P settings → (other : Settings) → command_of words ≡ Some (run other) → P other
 of_settings P settings words is has other other_is =
     let same_command : run settings ≡ run other = one_command (run settings) (run other) words is other_is in
+    let same : settings ≡ other = cc in
+    subst P same has
+
+pub of_save_settings : (P : Settings → Type 0) (settings : Settings) (words : List Text) → Some (save settings) ≡ command_of words
+    → P settings → (other : Settings) → command_of words ≡ Some (save other) → P other
+of_save_settings P settings words is has other other_is =
+    let same_command : save settings ≡ save other = one_command (save settings) (save other) words is other_is in
     let same : settings ≡ other = cc in
     subst P same has
 
@@ -102,7 +109,6 @@ written_is WriteFault old new text is P done fault = fault
 written_is (Image at of) old new text is P done fault = absurd is
 written_is ReadFault old new text is P done fault = absurd is
 written_is OutOfMemory old new text is P done fault = absurd is
-written_is NotBuilt old new text is P done fault = absurd is
 written_is Words old new text is P done fault = absurd is
 written_is (Trace line of) old new text is P done fault = absurd is
 written_is (HistoryLimit channel entries) old new text is P done fault = absurd is
@@ -227,11 +233,6 @@ next_head head full is = record {
   bad = is.bad;
 }
 
--- the bytes of a head with the next session and without contents
-pub next_bytes : (head : Head) (session : ℕ) (full : Bool) → session ≡ (head.session + 1) % 2 ^ 24 → full ≡ false →
-    head_bytes (record head { session = session; full = full }) ≡ head_bytes (with_next_session head false)
-next_bytes head session full is blank = rw (is, blank) refl
-
 -- how formatting a drive may end
 formatted_is : (status : Status) (before after old new : Option (List ℕ)) → IsFormatted status before after old new
     → (P : Status → Type 0) → P Done → P WriteFault → ((at : ℕ) (of : ImageFault) → P (Image at of)) → P ReadFault → P OutOfMemory
@@ -242,7 +243,6 @@ formatted_is (Image at of) before after old new is P done write image read memor
 formatted_is ReadFault before after old new is P done write image read memory failed = read
 formatted_is OutOfMemory before after old new is P done write image read memory failed = memory
 formatted_is (DieFailed die) before after old new is P done write image read memory failed = failed die
-formatted_is NotBuilt before after old new is P done write image read memory failed = absurd is
 formatted_is Words before after old new is P done write image read memory failed = absurd is
 formatted_is (Trace line of) before after old new is P done write image read memory failed = absurd is
 formatted_is (HistoryLimit channel entries) before after old new is P done write image read memory failed = absurd is
@@ -273,13 +273,6 @@ formatted_takes status before after old new is =
     formatted_is status before after old new is (λ s. s ≡ Words → ⊥) (λ same. absurd (cc)) (λ same. absurd (cc))
     (λ at of same. absurd (cc)) (λ same. absurd (cc)) (λ same. absurd (cc)) (λ die same. absurd (cc))
 
--- it is built
-pub formatted_built : (status : Status) (before after old new : Option (List ℕ)) → IsFormatted status before after old new
-    → status ≡ NotBuilt → ⊥
-formatted_built status before after old new is =
-    formatted_is status before after old new is (λ s. s ≡ NotBuilt → ⊥) (λ same. absurd (cc)) (λ same. absurd (cc))
-    (λ at of same. absurd (cc)) (λ same. absurd (cc)) (λ same. absurd (cc)) (λ die same. absurd (cc))
-
 -- a die's dies are as they were where it has none of an image
 pub written_loaded : (status : Status) (old new : Option (List ℕ)) (text : Text) (dies : List DieState)
     → IsWritten status old new text → AreLoadedBack status dies dies
@@ -290,11 +283,6 @@ pub written_uncounted : (status : Status) (old new : Option (List ℕ)) (text : 
     → IsWritten status old new text → AllCountNone olds news → AreLoadedBack status olds news
 written_uncounted status old new text olds news is none =
     written_is status old new text is (λ s. AreLoadedBack s olds news) none none
-
-pub written_built : (status : Status) (old new : Option (List ℕ)) (text : Text) → IsWritten status old new text
-    → status ≡ NotBuilt → ⊥
-written_built status old new text is =
-    written_is status old new text is (λ s. s ≡ NotBuilt → ⊥) (λ same. absurd (cc)) (λ same. absurd (cc))
 
 -- ---- a drive that wasn't loaded
 
@@ -307,7 +295,6 @@ stop_is (Trace line of) before now is P image trace read memory failed = trace l
 stop_is ReadFault before now is P image trace read memory failed = read
 stop_is OutOfMemory before now is P image trace read memory failed = memory
 stop_is (DieFailed die) before now is P image trace read memory failed = failed die
-stop_is NotBuilt before now is P image trace read memory failed = absurd is
 stop_is Done before now is P image trace read memory failed = absurd is
 stop_is Words before now is P image trace read memory failed = absurd is
 stop_is WriteFault before now is P image trace read memory failed = absurd is
@@ -322,7 +309,6 @@ stop_reads_stay (Trace line of) before now is not = is
 stop_reads_stay ReadFault before now is not = absurd (not refl)
 stop_reads_stay OutOfMemory before now is not = is
 stop_reads_stay (DieFailed die) before now is not = is
-stop_reads_stay NotBuilt before now is not = absurd is
 stop_reads_stay Done before now is not = absurd is
 stop_reads_stay Words before now is not = absurd is
 stop_reads_stay WriteFault before now is not = absurd is

@@ -1,11 +1,11 @@
--- What does the top call do for each command? `run` serves an input and prints what came of it, `format` writes the drive of an
--- image again, blank, and `gen` writes the work of a number. A drive isn't saved today.
-use Rattle.std.specs.Prelude.{ℕ, ◌≡◌, Bool, true, false, List, Option, Some, IfSome, Ok, ⊤}
+-- What does the top call do for each command? `run` serves an input and prints what came of it, `save` serves one and writes the
+-- image of the drive that it leaves, `format` writes the drive of an image again, blank, and `gen` writes the work of a number.
+use Rattle.std.specs.Prelude.{ℕ, ◌≡◌, ◌*◌, Bool, true, false, List, Option, Some, IfSome, Ok, ⊤}
 use Rattle.std.specs.Io.KnownBytes.{Appends}
 use Rattle.std.specs.Option.{option_map_or}
 use Rattle.complete_runs.specs.CompleteRuns.{IsComplete}
 use Rattle.onfi_cmd.specs.DieState.{DieState}
-use Rattle.run_laws.specs.Headline.{Headline}
+use Rattle.run_laws.specs.Headline.{Headline, IsWholeRun}
 use Rattle.run_laws.specs.Runs.{Run}
 use Rattle.ssd_formats.specs.Fields.{Rest}
 use Rattle.ssd_formats.specs.ImageContents.{ChannelImage, read_image}
@@ -17,8 +17,10 @@ use Rattle.ssd_formats.specs.Words.{Command, Settings, command_of}
 use Rattle.ssd_geo.specs.declared.policy_view.PolicyView.{PolicyView}
 use Rattle.ssd_io.specs.Pieces.{AppendsFront}
 use Rattle.ssd_top.specs.Handed.{IsRunOf}
-use Rattle.ssd_top.specs.HandedBack.{AllCountNone, AreHandedBack}
+use Rattle.ssd_top.specs.HandedBack.{AllCountNone, AreHandedBack, CountsRunAndFailure}
+use Rattle.ssd_top.specs.LeftDrives.{FailsBelow}
 use Rattle.ssd_top.specs.Printed.{shown_text}
+use Rattle.ssd_top.specs.Saving.{saved_image}
 use Rattle.ssd_top.specs.Serving.{WasRead}
 use Rattle.ssd_top.specs.declared.status.Status.{Status}
 use Rattle.ssd_top.specs.declared.status.Status.TheVariants.{Done, Image, ReadFault, WriteFault, OutOfMemory, DieFailed}
@@ -35,21 +37,23 @@ takes_words list = option_map_or takes_command (command_of list) false
 -- whether a command serves a trace, and whether words do
 abbrev pub serves_trace : Command → Bool
 serves_trace (words.run settings) = true
+serves_trace (words.save settings) = true
 serves_trace other = false
 
-abbrev pub are_run : List Text → Bool
-are_run list = option_map_or serves_trace (command_of list) false
+abbrev pub are_serving : List Text → Bool
+are_serving list = option_map_or serves_trace (command_of list) false
 
 -- whether a command loads a drive, and whether words are such a one
 abbrev pub loads_drive : Command → Bool
 loads_drive (words.run settings) = true
+loads_drive (words.save settings) = true
 loads_drive words.format = true
 loads_drive other = false
 
 abbrev pub are_loading : List Text → Bool
 are_loading list = option_map_or loads_drive (command_of list) false
 
--- whether a command is to save a drive, and whether words are
+-- whether a command saves a drive, and whether words are such a one
 abbrev pub saves_drive : Command → Bool
 saves_drive (words.save settings) = true
 saves_drive other = false
@@ -75,6 +79,20 @@ pub record PrintsRun (settings : Settings) (before after : Option (List ℕ)) (d
   pub ended : Ended asked.head run
   pub is_text : text ≡ shown_text settings.whole asked.head run
   pub is_printed : IsPrinted text
+
+-- so it had, and there is a run of it, of which nothing was printed. It ended so and left these dies; and this became of the image
+-- of the drive that it left
+pub record SavesRun (settings : Settings) (before after : Option (List ℕ)) (dies : List DieState)
+    (views : List (Option PolicyView)) (left : List DieState) (Ended : Head → Run → Type 0) (IsWritten : List ℕ → Type 0)
+    : Type 0 where
+  pub asked : Input
+  pub run : Run
+  pub was_read : WasRead before after asked
+  pub is_run : IsRunOf asked settings.history dies views left run
+  pub headline : Headline asked.head run
+  pub complete : IsComplete asked.head run
+  pub ended : Ended asked.head run
+  pub is_written : IsWritten (saved_image asked.head run left)
 
 -- a source had an image with this head, and nothing was read behind it
 pub record IsImageOf (before after : Option (List ℕ)) (head : Head) : Type 0 where
@@ -106,3 +124,22 @@ abbrev pub IsWritten : Status → Option (List ℕ) → Option (List ℕ) → Te
 IsWritten Done old new text = Appends old new text
 IsWritten WriteFault old new text = AppendsFront old new text
 IsWritten other old new text = ⊥
+
+-- a status of a drive that was to be saved, after which nothing was written
+abbrev pub IsUnsaved : Status → Type 0
+IsUnsaved Done = ⊥
+IsUnsaved WriteFault = ⊥
+IsUnsaved (DieFailed die) = ⊥
+IsUnsaved other = ⊤
+
+-- a drive was to be saved that a run left with some dies, and one of them failed as it was saved
+pub record FailsSaving (settings : Settings) (before after : Option (List ℕ)) (dies : List DieState)
+    (views : List (Option PolicyView)) (back : List DieState) (die : ℕ) (IsWritten : List ℕ → Type 0) : Type 0 where
+  pub left : List DieState
+  pub saves : SavesRun settings before after dies views left IsWholeRun IsWritten
+  pub fails : FailsBelow (saves.asked.head.sizes.channels * saves.asked.head.sizes.dies) die left back
+
+-- what became of the dies where a drive was to be saved: they took part in a run, and then one may have failed
+abbrev pub AreSavedBack : Status → List DieState → List DieState → Type 0
+AreSavedBack (DieFailed die) olds news = CountsRunAndFailure die olds news
+AreSavedBack other olds news = AreHandedBack other olds news

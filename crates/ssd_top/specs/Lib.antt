@@ -2,9 +2,11 @@ pub mod Commands
 pub mod Forms
 pub mod Handed
 pub mod HandedBack
+pub mod LeftDrives
 pub mod Loading
 pub mod Printed
 pub mod Running
+pub mod Saving
 pub mod Serving
 pub mod Statuses
 pub mod Workers

@@ -2,7 +2,7 @@
 -- source that tells its bytes says which input was served, or what was wrong with it; the facts are
 -- those of the bytes that it had.
 use Rattle.std.specs.Prelude.{ℕ, ◌≡◌, ◌*◌, ◌++◌, Bool, All, List, [], drop, flat_map, length, map, replicate, Result, Ok, Err, Option, Some, None, IfSome, ⊤}
-use Rattle.ssd_formats.specs.ImageHead.{Head}
+use Rattle.ssd_formats.specs.ImageHead.{Head, IsHead, head_of}
 use Rattle.ssd_formats.specs.Input.{Input, read_input}
 use Rattle.ssd_geo.specs.Faults.{Rose}
 use Rattle.ssd_formats.specs.Statuses.{image, trace}
@@ -14,6 +14,8 @@ use Rattle.image_file.specs.declared.stop.ReadStop.TheVariants as StopVariants
 use Rattle.trace_text.specs.Answers.{named_fault as trace_fault}
 use Rattle.trace_text.specs.declared.fault.TraceFault.{TraceFault}
 use Rattle.chan_calls.specs.Workers.{WorkerState}
+use Rattle.chan_state.specs.ChannelState.{EndsWhole, parts_of}
+use Rattle.chan_state.specs.declared.parts.BaseParts.{BaseParts}
 use Rattle.complete_runs.specs.CompleteRuns.{IsComplete}
 use Rattle.ctl.specs.Seen.{SeenChannel}
 use Rattle.drive_dies.specs.declared.mounting.MountStop.{MountStop}
@@ -32,12 +34,14 @@ use Rattle.ssd_geo.specs.declared.reply.Reply.{Reply}
 use Rattle.ssd_geo.specs.declared.trace.Trace.{Trace as TraceOf}
 use Rattle.ssd_top.specs.Handed.{IsRunOf}
 use Rattle.ssd_top.specs.HandedBack.{AllCountRuns, AreHandedBack}
+use Rattle.ssd_top.specs.LeftDrives.{LeavesDrive}
 use Rattle.ssd_top.specs.Printed.{IsPrintable, shown_text, text_of}
 use Rattle.ssd_top.specs.Running.{HasStopped, IsRunning, Job}
 use Rattle.ssd_top.specs.declared.printed.Printed.{Printed}
+use Rattle.ssd_top.specs.declared.served.Served.{Served}
 use Rattle.ssd_top.specs.declared.serving.Answered.{Answered}
 use Rattle.ssd_top.specs.declared.status.Status.{Status}
-use Rattle.ssd_top.specs.declared.status.Status.TheVariants.{Done, Words, Image, Trace, ReadFault, WriteFault, HistoryLimit, OutOfMemory, DieFailed as DieFailedStatus, NotBuilt}
+use Rattle.ssd_top.specs.declared.status.Status.TheVariants.{Done, Words, Image, Trace, ReadFault, WriteFault, HistoryLimit, OutOfMemory, DieFailed as DieFailedStatus}
 
 -- an input was read to its end, where the source told its bytes from those
 pub record WasRead (before after : Option (List ℕ)) (asked : Input) : Type 0 where
@@ -54,11 +58,10 @@ EndsAt head run (Some stop) = IsStoppedRun head run stop.0 stop.1
 abbrev pub Ends : Head → Run → Type 0
 Ends head run = (stop : Option (ℕ × ℕ)) × EndsAt head run stop
 
--- a status that names a fault names the first of these bytes, and none of what isn't built has its cause in them
+-- a status that names a fault names the first of these bytes
 abbrev pub IsCausedBy : Status → List ℕ → Type 0
 IsCausedBy (Image at fault) input_bytes = read_input input_bytes ≡ Err (image at (image_fault fault))
 IsCausedBy (Trace line fault) input_bytes = read_input input_bytes ≡ Err (trace line (trace_fault fault))
-IsCausedBy NotBuilt input_bytes = ⊥
 IsCausedBy status input_bytes = ⊤
 
 abbrev pub IsCausedByTold : Option (List ℕ) → Status → Type 0
@@ -92,15 +95,17 @@ pub record GiveBack (head : Head) (channels : List SeenChannel) (dies back : Lis
       back ≡ flat_map (λ channel. channel.kept.dies) channels ++ drop (head.sizes.channels * head.sizes.dies) dies
 
 -- the calls of an input were served, with this limit of the histories, over dies and policies: they led to these histories,
--- replies and number of dropped hints, and the dies came back so
+-- changed parts of bases, replies and number of dropped hints, and the dies came back so
 pub record IsServed (input : Input) (limit : ℕ) (dies : List DieState) (views : List (Option PolicyView)) (back : List DieState)
-    (histories : List (List Entry)) (answered : Answered) : Type 0 where
+    (histories : List (List Entry)) (parts : List BaseParts) (answered : Answered) : Type 0 where
   pub worker : WorkerState
   pub channels : List SeenChannel
   pub leads :
       LeadsTo (job_of input limit dies views) worker channels
       (map (λ list. list.items) answered.replies.items) answered.dropped answered.full
   pub histories_are : histories ≡ map (λ channel. history_of channel.kept.past) channels
+  pub parts_are : parts ≡ map (λ channel. parts_of channel.kept) channels
+  pub whole : All (λ channel. EndsWhole channel.kept) channels
   pub give_back : GiveBack input.head channels dies back
 
 -- what is to be printed, all or the summary alone, is made of a head, a trace, histories and answers
@@ -115,34 +120,37 @@ pub record IsMadeOf (whole : Bool) (head : ImageHead) (asked : TraceOf) (histori
   pub full_is : printed.full ≡ answered.full
 
 -- what is to be printed of an input can be, and is what settings show of a run of it over dies and policies, with the dies that
--- came back
+-- came back; and what the run left of the drive is this
 pub record IsOfInput (asked : Input) (settings : Settings) (dies : List DieState) (views : List (Option PolicyView)) (back : List DieState)
-    (printed : Printed) : Type 0 where
-  pub printable : IsPrintable printed
+    (served : Served) : Type 0 where
+  pub printable : IsPrintable served.printed
   pub run : Run
   pub is_run : IsRunOf asked settings.history dies views back run
   pub headline : Headline asked.head run
   pub complete : IsComplete asked.head run
-  pub ends : EndsAt asked.head run printed.full
-  pub is_text : text_of printed ≡ shown_text settings.whole asked.head run
+  pub ends : EndsAt asked.head run served.printed.full
+  pub is_text : text_of served.printed ≡ shown_text settings.whole asked.head run
+  pub is_head : IsHead (head_of served.printed.head)
+  pub head_is : head_of served.printed.head ≡ asked.head
+  pub leaves : LeavesDrive asked.head served.printed.head.shape run served.parts.items back
 
--- an input was read to its end, and this is to be printed of it
+-- an input was read to its end, and this came of it
 pub record HasServed (before after : Option (List ℕ)) (settings : Settings) (dies : List DieState) (views : List (Option PolicyView))
-    (back : List DieState) (printed : Printed) : Type 0 where
+    (back : List DieState) (served : Served) : Type 0 where
   pub asked : Input
   pub was_read : WasRead before after asked
-  pub of_input : IsOfInput asked settings dies views back printed
+  pub of_input : IsOfInput asked settings dies views back served
 
 -- how the calls of an input ended, with the dies that came back
 abbrev pub ServesInput :
-    Input → Settings → List DieState → List (Option PolicyView) → List DieState → Result Printed Status → Type 0
-ServesInput input settings dies views back (Ok printed) = IsOfInput input settings dies views back printed × AllCountRuns dies back
+    Input → Settings → List DieState → List (Option PolicyView) → List DieState → Result Served Status → Type 0
+ServesInput input settings dies views back (Ok served) = IsOfInput input settings dies views back served × AllCountRuns dies back
 ServesInput input settings dies views back (Err OutOfMemory) = ⊤
 ServesInput input settings dies views back (Err status) = ⊥
 
 -- what became of the dies, by how an input was served
-abbrev pub AreGivenBack : Result Printed Status → List DieState → List DieState → Type 0
-AreGivenBack (Ok printed) olds news = AllCountRuns olds news
+abbrev pub AreGivenBack : Result Served Status → List DieState → List DieState → Type 0
+AreGivenBack (Ok served) olds news = AllCountRuns olds news
 AreGivenBack (Err status) olds news = AreHandedBack status olds news
 
 -- the status of an image, and of a trace, that wasn't read
@@ -175,7 +183,6 @@ IsNoDie Memory = ⊤
 abbrev pub IsStop : ℕ → ℕ → Status → Type 0
 IsStop before now (Image at fault) = now ≡ before
 IsStop before now (Trace line fault) = now ≡ before
-IsStop before now NotBuilt = ⊥
 IsStop before now OutOfMemory = now ≡ before
 IsStop before now (DieFailedStatus die) = now ≡ before
 IsStop before now ReadFault = Rose before now
@@ -192,7 +199,6 @@ IsSilent (Trace line fault) = ⊤
 IsSilent ReadFault = ⊤
 IsSilent OutOfMemory = ⊤
 IsSilent (DieFailedStatus die) = ⊤
-IsSilent NotBuilt = ⊤
 IsSilent Done = ⊥
 IsSilent WriteFault = ⊥
 IsSilent (HistoryLimit channel length) = ⊥

@@ -25,6 +25,19 @@ fn next_session(session: u32) -> u32
     (session + 1) % SESSIONS
 }
 
+// A head with the next session, and with contents or without.
+pub fn with_next_session(head: ImageHead, full: bool) -> ImageHead
+    requires { IsHead (head_of head) }
+    ensures head { head_of result ≡ with_next_session (head_of head) full }
+    ensures is_head { IsHead (head_of result) }
+    ensures shape { result.shape ≡ head.shape }
+{
+    let mut head = head;
+    head.session = next_session(head.session);
+    head.full = full;
+    head
+}
+
 // Writes the head of an image again, with the next session and without contents.
 fn write_again<O: Sink>(output: &mut O, head: ImageHead) -> Status
     requires { IsHead (head_of head) }
@@ -34,10 +47,7 @@ fn write_again<O: Sink>(output: &mut O, head: ImageHead) -> Status
     ensures writes_stay { result ≢ Status.WriteFault → O.faults output.new ≡ O.faults output.old }
     ensures writes { NeverFell (O.faults output.old) (O.faults output.new) }
 {
-    let mut head = head;
-    head.session = next_session(head.session);
-    head.full = false;
-    match write_head(output, &head) {
+    match write_head(output, &with_next_session(head, false)) {
         Ok(()) => Status::Done,
         Err(_) => Status::WriteFault,
     }

@@ -16,6 +16,7 @@ use crate::Status;
 use crate::lists::{kinds_of, replies_of};
 use crate::loading::{image_status, load_drive};
 use crate::printed::Printed;
+use crate::served::Served;
 use crate::serving::{Answered, serve_trace};
 use crate::worker::worker_of;
 use blank_drive::{Ended, end_channels};
@@ -43,10 +44,10 @@ fn trace_status(stop: ReadStop<TraceFault>) -> Status
     }
 }
 
-// What is to be printed, or how the call ended where nothing is; and the dies that were handed in.
+// What came of an input, or how the call ended where nothing did; and the dies that were handed in.
 #[derive(Drop)]
 pub struct Answer<D: Die> {
-    pub outcome: Result<Printed, Status>,
+    pub outcome: Result<Served, Status>,
     pub dies: Vec<D>,
 }
 
@@ -136,7 +137,7 @@ fn serve<D: Die, P: Policy>(
         Ended {
             dies,
             histories,
-            ..
+            parts,
         },
     ) = end_channels(alloc, channels, left)
     else {
@@ -144,7 +145,7 @@ fn serve<D: Die, P: Policy>(
     };
     let outcome = match answered {
         Ok(answered) => match printed_of(alloc, settings.whole, head, trace, histories, answered) {
-            Ok(printed) => Ok(printed),
+            Ok(printed) => Ok(Served { printed, parts }),
             Err(Memory) => Err(Status::OutOfMemory),
         },
         Err(Memory) => Err(Status::OutOfMemory),

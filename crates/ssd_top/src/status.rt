@@ -30,10 +30,8 @@ pub enum Status {
     HistoryLimit { channel: u8, length: u32 },
     /// Memory was wanted and refused.
     OutOfMemory,
-    /// This die, counted over all channels, failed before the first call.
+    /// This die, counted over all channels, failed where it was mounted, loaded or saved.
     DieFailed { die: u8 },
-    /// The image has contents, or a drive is to be saved: neither is served today.
-    NotBuilt,
 }
 
 // The word of an image's fault.
@@ -129,7 +127,6 @@ impl Status {
             Status::HistoryLimit { .. } => 7,
             Status::OutOfMemory => 8,
             Status::DieFailed { .. } => 9,
-            Status::NotBuilt => 10,
         }
     }
 
@@ -152,7 +149,6 @@ impl Status {
             Status::HistoryLimit { channel, length } => put_limit(out, channel, length),
             Status::OutOfMemory => out.extend_from_slice(b"out of memory\n"),
             Status::DieFailed { die } => put_die(out, die),
-            Status::NotBuilt => out.extend_from_slice(b"not built\n"),
         }
     }
 }

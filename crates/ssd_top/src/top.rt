@@ -1,35 +1,29 @@
-ghost use Rattle.std.specs.Prelude.{ℕ, ◌≡◌, ◌≢◌, ◌⊎◌, true, false, Some, length, map};
+ghost use Rattle.std.specs.Prelude.{ℕ, ◌≡◌, ◌≢◌, ◌⊎◌, true, false, Some, length, map, ⊤};
 ghost use Rattle.std.specs.Io.KnownBytes.{Appends};
 ghost use Rattle.command_words.specs.Commands.{AreWithin, told_settings};
 ghost use Rattle.ssd_geo.specs.Faults.{NeverFell, Rose};
 ghost use Rattle.ssd_io.specs.Pieces.{AppendsFront};
 ghost use Rattle.run_laws.specs.Headline.{IsStoppedRun, IsWholeRun};
 ghost use Rattle.ssd_formats.specs.GeneratedWork.{generated_work};
-ghost use Rattle.ssd_formats.specs.Words.{Settings as SettingsOf, command_of, format as format_with, gen as gen_with, run as run_with};
-ghost use Rattle.ssd_top.specs.Commands.{AreLoadedBack, IsFormatted, IsWritten, PrintsRun, are_loading, are_run, are_save};
-ghost use Rattle.ssd_top.specs.Commands.{takes_words};
+ghost use Rattle.ssd_formats.specs.Words.{Settings as SettingsOf, command_of, format as format_with, gen as gen_with, run as run_with, save as save_with};
+ghost use Rattle.ssd_top.specs.Commands.{AreLoadedBack, AreSavedBack, FailsSaving, IsFormatted, IsUnsaved, IsWritten, PrintsRun, SavesRun};
+ghost use Rattle.ssd_top.specs.Commands.{are_loading, are_save, are_serving, takes_words};
 ghost use Rattle.ssd_top.specs.HandedBack.{AreHandedBack, AreHandedIn, most_channels};
 ghost use Rattle.ssd_top.specs.Serving.{Ends, IsCausedByTold, IsSilent};
 
 use crate::Status;
+use crate::ended::Ended;
 use crate::format::format;
 use crate::generate::generate;
+use crate::saving::save;
 use crate::serve::{Answer, serve_input};
+use crate::served::Served;
 use command_words::{Command, Settings, read_command};
 use onfi_cmd::Die;
 use ssd_geo::Word;
 use ssd_io::{Sink, Source};
 use std::alloc::Global;
 use victim::Policy;
-
-/// How a top call ended, and what it hands back.
-#[derive(Drop)]
-pub struct Ended<D: Die> {
-    /// How it ended.
-    pub status: Status,
-    /// The dies that were handed in, in their order. Where memory was refused some may be lost.
-    pub dies: Vec<D>,
-}
 
 // Serves an input by settings, and prints what came of it.
 fn serve_run<S: Source, O: Sink, D: Die>(
@@ -44,7 +38,6 @@ fn serve_run<S: Source, O: Sink, D: Die>(
     requires dies { AreHandedIn (map D.state dies.items) }
     requires policies { length policies.items ≡ most_channels }
     ensures served { result.status ≢ Status.Words }
-    ensures built { result.status ≢ Status.NotBuilt }
     ensures read_fault { result.status ≡ Status.ReadFault
         → Rose (S.faults input.old) (S.faults input.new) }
     ensures write_fault { result.status ≡ Status.WriteFault
@@ -73,7 +66,8 @@ fn serve_run<S: Source, O: Sink, D: Die>(
 {
     let Answer { outcome, dies } = serve_input(alloc, settings, input, dies, policies);
     match outcome {
-        Ok(mut printed) => {
+        Ok(served) => {
+            let Served { mut printed, .. } = served;
             let status = printed.status();
             match printed.print(output) {
                 Ok(()) => Ended { status, dies },
@@ -117,17 +111,18 @@ pub fn run<S: Source, O: Sink, D: Die>(
     ensures reads { NeverFell (S.faults input.old) (S.faults input.new) }
     ensures writes { NeverFell (O.faults output.old) (O.faults output.new) }
 
-    // The dies are handed back. A load count rose only at the die that failed in its mount or a load, which is named. Where no
-    // trace is served no work count rose, and where no image is read they are as they were.
-    ensures dies { AreHandedBack result.status (map D.state dies.items) (map D.state result.dies.items) }
+    // The dies are handed back. A load count rose only at the die that failed in its mount, a load or where it was saved, which is
+    // named. Where no trace is served no work count rose, and where no image is read they are as they were.
+    ensures dies { are_save words.now ≡ false
+        → AreHandedBack result.status (map D.state dies.items) (map D.state result.dies.items) }
+    ensures dies_saved { are_save words.now ≡ true
+        → AreSavedBack result.status (map D.state dies.items) (map D.state result.dies.items) }
     ensures dies_stay { are_loading words.now ≡ false → map D.state result.dies.items ≡ map D.state dies.items }
-    ensures dies_loaded { are_run words.now ≡ false
+    ensures dies_loaded { are_serving words.now ≡ false
         → AreLoadedBack result.status (map D.state dies.items) (map D.state result.dies.items) }
 
-    // A fault that is named is the first of what the source had. What isn't built is to save a drive, and only that.
-    ensures caused { are_save words.now ≡ false → IsCausedByTold (S.left input.old) result.status }
-    ensures unsaved { are_save words.now ≡ true → result.status ≡ Status.NotBuilt }
-    ensures built { are_save words.now ≡ false → result.status ≢ Status.NotBuilt }
+    // A fault that is named is the first of what the source had.
+    ensures caused { IsCausedByTold (S.left input.old) result.status }
 
     // The source had an input, which was read to its end, and a run of it was printed. It ended with the last call.
     ensures headline { (settings : SettingsOf) → command_of words.now ≡ Some (run_with settings) → result.status ≡ Status.Done
@@ -147,6 +142,31 @@ pub fn run<S: Source, O: Sink, D: Die>(
         (map (λ policy. told policy) policies.items) (map D.state result.dies.items) Ends
         (AppendsFront (O.written output.old) (O.written output.new)) }
 
+    // The source had an input, which was read to its end, and a run of it ended with the last call. The drive that it left was saved,
+    // with contents and the next session.
+    ensures saved { (settings : SettingsOf) → command_of words.now ≡ Some (save_with settings) → result.status ≡ Status.Done
+        → SavesRun settings (S.left input.old) (S.left input.new) (map D.state dies.items)
+        (map (λ policy. told policy) policies.items) (map D.state result.dies.items) IsWholeRun
+        (Appends (O.written output.old) (O.written output.new)) }
+    // Where the sink failed, a front of its image was written.
+    ensures saved_front { (settings : SettingsOf) → command_of words.now ≡ Some (save_with settings)
+        → result.status ≡ Status.WriteFault
+        → SavesRun settings (S.left input.old) (S.left input.new) (map D.state dies.items)
+        (map (λ policy. told policy) policies.items) (map D.state result.dies.items) IsWholeRun
+        (AppendsFront (O.written output.old) (O.written output.new)) }
+    // Where a die failed, it did so before a call was served, and nothing was written, or where it was saved.
+    ensures saved_failed { (settings : SettingsOf) → command_of words.now ≡ Some (save_with settings)
+        → (die : ℕ) → result.status ≡ Status.DieFailed die
+        → (output.new ≡ output.old) ⊎ FailsSaving settings (S.left input.old) (S.left input.new)
+        (map D.state dies.items) (map (λ policy. told policy) policies.items) (map D.state result.dies.items) die
+        (AppendsFront (O.written output.old) (O.written output.new)) }
+    // The run stopped, as one that is printed, and nothing was saved.
+    ensures saved_at_limit { (settings : SettingsOf) → command_of words.now ≡ Some (save_with settings)
+        → (channel entries : ℕ) → result.status ≡ Status.HistoryLimit channel entries
+        → SavesRun settings (S.left input.old) (S.left input.new) (map D.state dies.items)
+        (map (λ policy. told policy) policies.items) (map D.state result.dies.items)
+        (λ head run. IsStoppedRun head run channel entries) (λ image. ⊤) }
+
     // The drive of an image was written again, blank; the source was read up to the end of the image, and no further.
     ensures formatted { command_of words.now ≡ Some format_with
         → IsFormatted result.status (S.left input.old) (S.left input.new) (O.written output.old) (O.written output.new) }
@@ -156,7 +176,8 @@ pub fn run<S: Source, O: Sink, D: Die>(
     ensures unread { (number : ℕ) → command_of words.now ≡ Some (gen_with number) → input.new ≡ input.old }
 
     // Else nothing was written.
-    ensures nothing { IsSilent result.status → output.new ≡ output.old }
+    ensures nothing { are_save words.now ≡ false → IsSilent result.status → output.new ≡ output.old }
+    ensures nothing_saved { are_save words.now ≡ true → IsUnsaved result.status → output.new ≡ output.old }
 {
     match read_command(words) {
         None => Ended {
@@ -170,10 +191,7 @@ pub fn run<S: Source, O: Sink, D: Die>(
             status: Status::Words,
             dies,
         },
-        Some(Command::Save { .. }) => Ended {
-            status: Status::NotBuilt,
-            dies,
-        },
+        Some(Command::Save { settings }) => { save(alloc, settings, input, output, dies, policies) }
         Some(Command::Format) => {
             let mut dies = dies;
             let status = format(alloc, input, output, &mut dies);

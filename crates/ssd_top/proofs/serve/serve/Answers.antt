@@ -9,7 +9,7 @@ use Rattle.ssd_top.proofs.SavedInputs.{are_listed, are_saved_as, saved_at, saved
 use Rattle.ssd_top.proofs.ServedEnds.{serves}
 use Rattle.ssd_top.specs.Forms.{input_of}
 use Rattle.ssd_top.specs.Serving.{ServesInput, job_of}
-use Rattle.ssd_top.specs.declared.printed.Printed.{Printed}
+use Rattle.ssd_top.specs.declared.served.Served.{Served}
 use Rattle.ssd_top.specs.declared.status.Status.{Status}
 use Rattle.ssd_top.proofs.serve.serve.Goals.{in-Ok-answered, in-Ok-printed_of, in-Err-printed_of, in-Err}
 use Rattle.ssd_top.proofs.serve.serve.Goals as goal
@@ -39,7 +39,7 @@ returns g c = λ saved of.
     let head = head_of c.args.head in
     let dies = map g.D.Die.state c.args.dies.items in
     let views = map (λ policy. g.P.Policy.told policy) c.args.policies.items in
-    let ends = λ (outcome : Result Printed Status).
+    let ends = λ (outcome : Result Served Status).
     ServesInput (input_of head (saved_at head saved) c.args.trace.now) (told_settings c.args.settings) dies views
     (map g.D.Die.state c.in-Ok-end_channels.field-0.dies.items) outcome in
     let running =
@@ -64,7 +64,9 @@ returns g c = λ saved of.
             (told_settings c.args.settings) c.args.trace.now views c.requires.dies.enough (settings c.in-Ok.worker) whole running
             c.in-Ok-end_channels.ensures.counts
             c.in-Ok-begin_channels.ensures.left c.in-Ok-end_channels.ensures.dies c.in-Ok-end_channels.field-0.histories.items
-            w.in-Ok-answered.answered made.in-Ok-printed_of.printed c.in-Ok-end_channels.ensures.histories
+            w.in-Ok-answered.answered
+            (record { printed = made.in-Ok-printed_of.printed; parts = c.in-Ok-end_channels.field-0.parts })
+            c.in-Ok-end_channels.ensures.histories c.in-Ok-end_channels.ensures.parts c.in-Ok-end_channels.ensures.whole
             w.in-Ok-answered.ensures.ok
             made.in-Ok-printed_of.ensures)
         | in-Err-printed_of failed ↦ subst ends (sym (w.outcome-is ∙ failed.outcome-is)) tt

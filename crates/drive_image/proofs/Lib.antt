@@ -1,0 +1,4 @@
+pub mod LentDies
+pub mod MountedDies
+pub mod SavedChannels
+pub mod SaveSteps
