@@ -40,11 +40,14 @@ use Rattle.contents_start.proofs.SavedBlocks.{used_fits}
 use Rattle.ssd_formats.proofs.SpelledContents.{due_at_most}
 use Rattle.contents_end.proofs.SavableStarts.{starts_are_saved}
 use Rattle.contents_end.proofs.Tests.{below_if}
-use Rattle.channel_ends.specs.ChannelEnds.{EndedChannelsAreSaved, EndedChannelsStartAgain, HasEnded, base_at_end, start_at_end}
-use Rattle.channel_ends.proofs.EndedSums.{has_open, no_sum_at_end, not_open}
+use Rattle.channel_ends.specs.ChannelEnds.{EndedChannelsAreSaved, EndedChannelsStartAgain, HasEnded, HasFewErases, base_at_end, start_at_end}
+use Rattle.run_laws.specs.Serials.{HasSmallSerial}
+use Rattle.channel_ends.proofs.EndedSums.{has_open, no_sum_at_end, not_open, running_has}
 use Rattle.channel_ends.proofs.LevelsInRange.{LevelsIn, from_list, in_list, levels_in_range}
+use Rattle.channel_ends.proofs.SmallSerials.{table_stays_small}
 use Rattle.channel_ends.proofs.UsedPages.{ends_there, used_pages_stand}
 use Rattle.channel_ends.proofs.WholePages.{HasLevels, from_pages, levels_have, pages_are_whole}
+use Rattle.channel_ends.proofs.WholeWords.{IsWhole, no_sum_is_whole}
 
 -- a row names a used slot
 names_if : (base : ChannelBase) (of : Row) → NamesUsedIn base.blocks of → names_used base of ≡ true
@@ -83,6 +86,12 @@ module _ (view next : Option PolicyView) (start : Start) (contents : List (Tag �
       has.stands.dies_fit.sum_is
       ∙ no_sum_at_end start contents channel.past
       (ap (λ (blocks : List BlockBase). not (list_any (has_open start.base.shape) blocks)) (sym has.stands.blocks_are) ∙ none)
+
+  sum_whole : IsWhole start.base begun.fields channel.sum
+  sum_whole =
+      subst (λ (sum : List ℕ). IsWhole start.base begun.fields sum) (sym has.stands.dies_fit.sum_is)
+      (running_has (IsWhole start.base begun.fields) start contents channel.past (no_sum_is_whole start.base begun.fields)
+      (pages_are_whole start contents begun channel.past has.stands.is_past.is_lawful).sums)
 
   -- the cells of a block of the next start
   cells_are : (die sb : ℕ) → die < start.base.shape.dies
@@ -127,7 +136,7 @@ module _ (view next : Option PolicyView) (start : Start) (contents : List (Tag �
       → All (λ (levels : List ℤ). length levels ≡ page_cells_of (sizes_of start.base.shape)) (cells_at (blocks_told channel.dies die) sb).pages
   whole_at_end die sb in_dies in_blocks = λ page d below.
       let most : programmed_in (blocks_told channel.dies die) sb ≤ start.base.shape.pages =
-      has.has_contents.few_pages die sb in_dies in_blocks in
+      has.few_pages die in_dies sb in_blocks in
       let count : ℕ = page_cells_of (sizes_of start.base.shape) in
       let place : Place = record { die = die; sb = sb; page = page } in
       let range : IsTrue (has_place start.base.shape place) =
@@ -142,7 +151,7 @@ module _ (view next : Option PolicyView) (start : Start) (contents : List (Tag �
       → IsDueBlock (start_at_end start channel next) die sb
   block_due die sb in_dies in_blocks =
       let most : programmed_in (blocks_told channel.dies die) sb ≤ start.base.shape.pages =
-      has.has_contents.few_pages die sb in_dies in_blocks in
+      has.few_pages die in_dies sb in_blocks in
       let long : length (cells_at_start (start_at_end start channel next) die sb).pages
       ≡ length (cells_at (blocks_told channel.dies die) sb).pages =
       ap (λ (cells : BlockCells). length cells.pages) (cells_are die sb in_dies) in
@@ -171,18 +180,18 @@ module _ (view next : Option PolicyView) (start : Start) (contents : List (Tag �
     weak = begun.fields.weak;
   }
 
-  pub starts_again : IsStart (start_at_end start channel next)
-  starts_again = record {
+  pub starts_again : HasFewErases channel.blocks → IsStart (start_at_end start channel next)
+  starts_again few_erases = record {
     blocks_count = tables.blocks_count;
     blocks_sound = tables.blocks_sound;
-    few_erases = has.few_erases;
+    few_erases = few_erases;
     rows_count = tables.rows_count;
     rows_within = tables.rows_are.within;
     rows_apart = tables.rows_are.apart;
     rows_used = rows_used;
     sum_bytes = has.whole.sum_bytes ∙ ap (λ (shape : Shape). word_bytes_in shape) has.stands.shape_is;
     sum_of_none = no_sum;
-    sum_codewords = has.has_contents.sum_codewords;
+    sum_codewords = sum_whole.codewords;
     fields = fields;
     limit_low = begun.limit_low;
     limit_high = begun.limit_high;
@@ -196,7 +205,7 @@ module _ (view next : Option PolicyView) (start : Start) (contents : List (Tag �
       → All (λ (page : List ℤ). list_all is_level page ≡ true) (cells_at (blocks_told channel.dies die) sb).pages
   levels_at_end die sb in_dies in_blocks levels = λ page d below.
       let most : programmed_in (blocks_told channel.dies die) sb ≤ start.base.shape.pages =
-      has.has_contents.few_pages die sb in_dies in_blocks in
+      has.few_pages die in_dies sb in_blocks in
       let place : Place = record { die = die; sb = sb; page = page } in
       let range : IsTrue (has_place start.base.shape place) =
       place_has_range start.base.shape place (record { die = in_dies; superblock = in_blocks; page = omega (arith, below, most) }) in
@@ -216,11 +225,11 @@ module _ (view next : Option PolicyView) (start : Start) (contents : List (Tag �
       ∙ ap (λ (b : Bool). b || list_any (λ (entry : Entry). turns_bad sb entry.kind) channel.past) bad
 
 pub ended_channels_start_again : EndedChannelsStartAgain
-ended_channels_start_again view next start contents channel has = starts_again view next start contents channel has
+ended_channels_start_again view next start contents channel has few = starts_again view next start contents channel has few
 
 pub ended_channels_are_saved : EndedChannelsAreSaved
-ended_channels_are_saved head number view start contents channel h can has =
-    starts_are_saved head number (start_at_end start channel view) h (starts_again view view start contents channel has)
+ended_channels_are_saved head number view start contents channel h can has few small =
+    starts_are_saved head number (start_at_end start channel view) h (starts_again view view start contents channel has few)
     (record {
       of_head = record {
         shape = can.of_head.shape;
@@ -234,7 +243,10 @@ ended_channels_are_saved head number view start contents channel h can has =
         weak = can.of_head.weak;
       };
       listed_bad = λ sb below is. stays_bad view view start contents channel has sb below (can.listed_bad sb below is);
-      serials = has.has_contents.serials;
+      serials = λ row.
+          subst (λ (rows : List Row). HasSmallSerial (row_at rows row)) (sym has.stands.rows_are)
+          (table_stays_small start contents has.stands.is_past.is_start.fields.session can.serials channel.past
+          has.stands.is_past.is_lawful small row);
       levels = λ die sb in_dies in_blocks.
           subst (λ (cells : BlockCells). All (λ (page : List ℤ). list_all is_level page ≡ true) cells.pages)
           (sym (cells_are view view start contents channel has die sb in_dies))

@@ -1,4 +1,4 @@
--- Where no stripe is open at the end of a channel its running sum is all 0.
+-- The running sum of a channel is that of a stripe, or all 0; and it is all 0 where no stripe is open at the channel's end.
 use Rattle.std.proofs.Common.{◌≡◌, refl, ap, sym, ◌∙◌, ℕ, ◌-◌, ◌%◌, ◌==◌, ◌&&◌, not, Bool, true, false, List, length, get_or, Option, Some, None, ◌/◌, ◌<◌, arith}
 use Rattle.std.specs.List.{list_any}
 use Rattle.std.proofs.lemmas.List.Folds.{list_any_at}
@@ -72,3 +72,26 @@ no_sum_at_end start contents past none = by_frontier (frontier_of (blocks_of sta
         let used : (used_of start.base past sb % (start.base.shape.dies - 1) == 0) ≡ true =
         ap (λ (block : BlockBase). block.used % (start.base.shape.dies - 1) == 0) (sym (block_is start.base past sb below)) ∙ whole in
         by_used sb (used_of start.base past sb % (start.base.shape.dies - 1) == 0) used
+
+-- what holds of the sum of each stripe, and of no sum, holds of the running one
+pub running_has : (P : List ℕ → Type 0) (start : Start) (contents : List (Tag × List ℕ)) (past : List Entry)
+    → P (zero_word (word_bytes_in start.base.shape))
+    → ((sb stripe : ℕ) → P (sum_of (coding_of start.base) start contents past sb stripe))
+    → P (running_sum (coding_of start.base) start contents past)
+running_has P start contents past none each = by_frontier (frontier_of (blocks_of start.base past))
+  where
+    by_used : (sb : ℕ) (whole : Bool)
+        → P (elim whole [
+          | true ↦ zero_word (word_bytes_in start.base.shape)
+          | false ↦ sum_of (coding_of start.base) start contents past sb (used_of start.base past sb / (start.base.shape.dies - 1))
+        ])
+    by_used sb true = none
+    by_used sb false = each sb (used_of start.base past sb / (start.base.shape.dies - 1))
+
+    by_frontier : (at : Option ℕ)
+        → P (elim at [
+          | Some sb ↦ sum_of_open (coding_of start.base) start contents past sb
+          | None ↦ zero_word (word_bytes_in start.base.shape)
+        ])
+    by_frontier None = none
+    by_frontier (Some sb) = by_used sb (used_of start.base past sb % (start.base.shape.dies - 1) == 0)

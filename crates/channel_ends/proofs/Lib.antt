@@ -1,7 +1,12 @@
 pub mod EndedStarts
 pub mod EndedSums
+pub mod HeldImages
 pub mod LevelsInRange
+pub mod PageCounts
+pub mod ReadAgain
 pub mod Recovered
+pub mod SmallSerials
+pub mod SumsOfCodewords
 pub mod UsedPages
 pub mod WholePages
 pub mod WholeWords

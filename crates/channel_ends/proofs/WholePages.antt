@@ -1,4 +1,5 @@
--- After a lawful past each page has a level for each cell, and so each sense has the bytes of a page's word.
+-- After a lawful past each page has a level for each cell, and so each sense has the bytes of a page's word; and the sum of each
+-- stripe is a page's word of codewords.
 use Rattle.std.proofs.Common.{◌≡◌, ap, sym, ◌∙◌, ℕ, zero, suc, ◌+◌, ◌*◌, ◌/◌, ◌<◌, ◌&&◌, ◌==◌, nat_lt, Bool, true, false, List, [], ◌∷◌, ◌++◌, length, map, get_or, Option, Some, None, option_map, slice_get, ℤ, arith}
 use Rattle.std.specs.Prelude.{All, IsTrue, ⊤}
 use Rattle.std.proofs.lemmas.List.{length-map, length-replicate}
@@ -17,7 +18,6 @@ use Rattle.ssd_geo.specs.declared.entry.Entry.{Entry}
 use Rattle.ssd_geo.specs.declared.kind.Kind.{Kind}
 use Rattle.ssd_geo.specs.declared.place.Place.{Place}
 use Rattle.ssd_geo.specs.declared.tag.Tag.{Tag}
-use Rattle.ssd_geo.proofs.WordSums.{length-bytes_sum}
 use Rattle.ssd_histories.specs.History.{look_of, open_look}
 use Rattle.ssd_histories.specs.Lawful.{IsLawful, IsLawfulBadCopy, IsLawfulKind, IsLawfulMove}
 use Rattle.ssd_histories.specs.PastBlocks.{erases_of}
@@ -31,7 +31,7 @@ use Rattle.chan_fits.proofs.PlacesInRange.{place_in_range}
 use Rattle.ldpc_encode.proofs.Bytes.{length-bytes_of}
 use Rattle.recovery_laws.proofs.WordData.{whole_bytes}
 use Rattle.channel_ends.proofs.Recovered.{Each, recovered_has}
-use Rattle.channel_ends.proofs.WholeWords.{IsLong, IsLongCode, encoded_is_long, makes_long, needed}
+use Rattle.channel_ends.proofs.WholeWords.{IsCode, IsLong, IsWhole, encoded_is_whole, makes_whole, needed, no_sum_is_whole, sum_is_whole}
 
 turned : (a q : ℕ) → a * (8 * q) ≡ 8 * (a * q)
 turned a q = omega arith
@@ -77,6 +77,9 @@ module _ (start : Start) (contents : List (Tag × List ℕ)) (is : IsStart start
   abbrev Long : List ℕ → Type 0
   Long = IsLong start.base is.fields
 
+  abbrev Whole : List ℕ → Type 0
+  Whole = IsWhole start.base is.fields
+
   cells_are : cells ≡ 8 * word_bytes_of (sizes_of start.base.shape)
   cells_are =
       ap (λ (bits : ℕ). start.base.shape.words * bits)
@@ -87,11 +90,11 @@ module _ (start : Start) (contents : List (Tag × List ℕ)) (is : IsStart start
   pub record AreWhole (past : List Entry) : Type 0 where
     pub pages : (place : Place) → IsTrue (has_place start.base.shape place) → HasCells cells (page_of coding start contents past place)
     pub senses : (at : ℕ) → Each Long (senses_of coding start contents past at)
-    pub sums : (sb stripe : ℕ) → Long (sum_of coding start contents past sb stripe)
+    pub sums : (sb stripe : ℕ) → Whole (sum_of coding start contents past sb stripe)
 
-  sum_at_start : (some : Bool) → Long (elim some [ true ↦ start.base.sum | false ↦ zero_word (word_bytes_of (sizes_of start.base.shape)) ])
-  sum_at_start true = is.sum_bytes
-  sum_at_start false = length-replicate (word_bytes_of (sizes_of start.base.shape)) 0
+  sum_at_start : (some : Bool) → Whole (elim some [ true ↦ start.base.sum | false ↦ zero_word (word_bytes_of (sizes_of start.base.shape)) ])
+  sum_at_start true = record { long = is.sum_bytes; codewords = is.sum_codewords }
+  sum_at_start false = no_sum_is_whole start.base is.fields
 
   at_start : AreWhole []
   at_start = record {
@@ -119,7 +122,7 @@ module _ (start : Start) (contents : List (Tag × List ℕ)) (is : IsStart start
   aged_cells amount (Some page) h = length-map page.levels (aged_level start.base.law.erased amount) ∙ h
 
   -- a page after an entry that programs this word
-  page_left : (past : List Entry) (place : Place) (word : List ℕ) (change : PageChange) → Long word → AreWhole past
+  page_left : (past : List Entry) (place : Place) (word : List ℕ) (change : PageChange) → Whole word → AreWhole past
       → HasCells cells (page_of coding start contents past place)
       → HasCells cells (elim change [
         | programs ↦ Some (fresh_page start.base past place word)
@@ -129,45 +132,45 @@ module _ (start : Start) (contents : List (Tag × List ℕ)) (is : IsStart start
         | ages amount ↦ option_map (aged_page start.base amount) (page_of coding start contents past place)
         | leaves ↦ page_of coding start contents past place
       ])
-  page_left past place word programs long whole before = fresh_cells past place word long
-  page_left past place word (programs_parity slot) long whole before =
+  page_left past place word programs made whole before = fresh_cells past place word made.long
+  page_left past place word (programs_parity slot) made whole before =
       let sum : List ℕ = sum_of coding start contents past slot.sb (stripe_of_index start.base.shape.dies slot.index) in
-      let own : Long sum = whole.sums slot.sb (stripe_of_index start.base.shape.dies slot.index) in
-      fresh_cells past place (bytes_sum word sum) (length-bytes_sum word sum (own ∙ sym long) ∙ long)
-  page_left past place word empties long whole before = tt
-  page_left past place word (ages amount) long whole before = aged_cells amount (page_of coding start contents past place) before
-  page_left past place word leaves long whole before = before
+      let own : Whole sum = whole.sums slot.sb (stripe_of_index start.base.shape.dies slot.index) in
+      fresh_cells past place (bytes_sum word sum) (sum_is_whole start.base is.fields word sum made own).long
+  page_left past place word empties made whole before = tt
+  page_left past place word (ages amount) made whole before = aged_cells amount (page_of coding start contents past place) before
+  page_left past place word leaves made whole before = before
 
   -- the word that a copy programs
   copied : (past : List Entry) (at : ℕ) → AreWhole past → IsTrue (is_recovered (ladder_of coding start contents past at))
-      → Long (word_recovered (ladder_over coding start.base.shape.dies (look_of past at) (senses_of coding start contents past at)))
+      → Whole (word_recovered (ladder_over coding start.base.shape.dies (look_of past at) (senses_of coding start contents past at)))
   copied past at whole recovered =
-      recovered_has coding Long (IsLongCode start.base is.fields) Long (makes_long start.base is.fields)
+      recovered_has coding Long (IsCode start.base is.fields) Whole (makes_whole start.base is.fields)
       start.base.shape.dies (look_of past at) (senses_of coding start contents past at) (whole.senses at) recovered
 
   -- what is known of the word that an entry programs, if it programs one
-  abbrev WordIsLong : List Entry → Tag → Kind → Type 0
-  WordIsLong past tag (Kind.Write row slot) = Long (word_of_entry past tag (Kind.Write row slot))
-  WordIsLong past tag (Kind.BadWrite row slot die fault) = Long (word_of_entry past tag (Kind.BadWrite row slot die fault))
-  WordIsLong past tag (Kind.Move at slot) = Long (word_of_entry past tag (Kind.Move at slot))
-  WordIsLong past tag (Kind.BadCopy at slot die fault) = Long (word_of_entry past tag (Kind.BadCopy at slot die fault))
-  WordIsLong past tag kind = ⊤
+  abbrev WordIsWhole : List Entry → Tag → Kind → Type 0
+  WordIsWhole past tag (Kind.Write row slot) = Whole (word_of_entry past tag (Kind.Write row slot))
+  WordIsWhole past tag (Kind.BadWrite row slot die fault) = Whole (word_of_entry past tag (Kind.BadWrite row slot die fault))
+  WordIsWhole past tag (Kind.Move at slot) = Whole (word_of_entry past tag (Kind.Move at slot))
+  WordIsWhole past tag (Kind.BadCopy at slot die fault) = Whole (word_of_entry past tag (Kind.BadCopy at slot die fault))
+  WordIsWhole past tag kind = ⊤
 
-  word_is_long : (past : List Entry) (tag : Tag) (kind : Kind) → AreWhole past
-      → IsLawfulKind (ladder_of coding start contents past) start.base past tag kind → WordIsLong past tag kind
-  word_is_long past tag (Kind.Write row slot) whole lawful =
-      encoded_is_long start.base is.fields (serial_of start.base.session tag) row (data_of contents tag)
-  word_is_long past tag (Kind.BadWrite row slot die fault) whole lawful =
-      encoded_is_long start.base is.fields (serial_of start.base.session tag) row (data_of contents tag)
-  word_is_long past tag (Kind.Move at slot) whole lawful =
+  word_is_whole : (past : List Entry) (tag : Tag) (kind : Kind) → AreWhole past
+      → IsLawfulKind (ladder_of coding start contents past) start.base past tag kind → WordIsWhole past tag kind
+  word_is_whole past tag (Kind.Write row slot) whole lawful =
+      encoded_is_whole start.base is.fields (serial_of start.base.session tag) row (data_of contents tag)
+  word_is_whole past tag (Kind.BadWrite row slot die fault) whole lawful =
+      encoded_is_whole start.base is.fields (serial_of start.base.session tag) row (data_of contents tag)
+  word_is_whole past tag (Kind.Move at slot) whole lawful =
       copied past at whole
       (of_some (open_look past tag at) (λ look. IsLawfulMove (ladder_of coding start contents past at) start.base past look slot)
       (λ look move. move.may_copy.is_recovered) lawful)
-  word_is_long past tag (Kind.BadCopy at slot die fault) whole lawful =
+  word_is_whole past tag (Kind.BadCopy at slot die fault) whole lawful =
       copied past at whole
       (of_some (open_look past tag at) (λ look. IsLawfulBadCopy (ladder_of coding start contents past at) start.base past look slot die fault)
       (λ look copy. copy.may_copy.is_recovered) lawful)
-  word_is_long past tag kind whole lawful = tt
+  word_is_whole past tag kind whole lawful = tt
 
   -- a page after an entry
   abbrev page_after : List Entry → Tag → Kind → Place → PageChange → Option StoredPage
@@ -191,25 +194,25 @@ module _ (start : Start) (contents : List (Tag × List ℕ)) (is : IsStart start
   aged past tag kind place true amount before = aged_cells amount (page_of coding start contents past place) before
   aged past tag kind place false amount before = before
 
-  page_step : (past : List Entry) (tag : Tag) (kind : Kind) (place : Place) → AreWhole past → WordIsLong past tag kind
+  page_step : (past : List Entry) (tag : Tag) (kind : Kind) (place : Place) → AreWhole past → WordIsWhole past tag kind
       → HasCells cells (page_of coding start contents past place)
       → HasCells cells (page_after past tag kind place (page_change start.base.shape.dies kind place))
-  page_step past tag (Kind.Write row slot) place whole long before =
-      page_left past place (word_of_entry past tag (Kind.Write row slot)) (page_change start.base.shape.dies (Kind.Write row slot) place) long whole before
-  page_step past tag (Kind.BadWrite row slot die fault) place whole long before =
+  page_step past tag (Kind.Write row slot) place whole made before =
+      page_left past place (word_of_entry past tag (Kind.Write row slot)) (page_change start.base.shape.dies (Kind.Write row slot) place) made whole before
+  page_step past tag (Kind.BadWrite row slot die fault) place whole made before =
       page_left past place (word_of_entry past tag (Kind.BadWrite row slot die fault))
-      (page_change start.base.shape.dies (Kind.BadWrite row slot die fault) place) long whole before
-  page_step past tag (Kind.Move at slot) place whole long before =
-      page_left past place (word_of_entry past tag (Kind.Move at slot)) (page_change start.base.shape.dies (Kind.Move at slot) place) long whole before
-  page_step past tag (Kind.BadCopy at slot die fault) place whole long before =
+      (page_change start.base.shape.dies (Kind.BadWrite row slot die fault) place) made whole before
+  page_step past tag (Kind.Move at slot) place whole made before =
+      page_left past place (word_of_entry past tag (Kind.Move at slot)) (page_change start.base.shape.dies (Kind.Move at slot) place) made whole before
+  page_step past tag (Kind.BadCopy at slot die fault) place whole made before =
       page_left past place (word_of_entry past tag (Kind.BadCopy at slot die fault))
-      (page_change start.base.shape.dies (Kind.BadCopy at slot die fault) place) long whole before
-  page_step past tag (Kind.Erase sb) place whole long before = emptied past tag (Kind.Erase sb) place (place.sb == sb) before
-  page_step past tag (Kind.BadErase sb die fault) place whole long before =
+      (page_change start.base.shape.dies (Kind.BadCopy at slot die fault) place) made whole before
+  page_step past tag (Kind.Erase sb) place whole made before = emptied past tag (Kind.Erase sb) place (place.sb == sb) before
+  page_step past tag (Kind.BadErase sb die fault) place whole made before =
       emptied past tag (Kind.BadErase sb die fault) place (place.sb == sb && nat_lt place.die die) before
-  page_step past tag (Kind.Age die sb amount) place whole long before =
+  page_step past tag (Kind.Age die sb amount) place whole made before =
       aged past tag (Kind.Age die sb amount) place (place.die == die && place.sb == sb) amount before
-  page_step past tag kind place whole long before = before
+  page_step past tag kind place whole made before = before
 
   -- a sum after an entry
   abbrev sum_after : List Entry → Tag → Kind → ℕ → ℕ → SumChange → List ℕ
@@ -219,28 +222,28 @@ module _ (start : Start) (contents : List (Tag × List ℕ)) (is : IsStart start
     | keeps ↦ sum_of coding start contents past sb stripe
   ]
 
-  added : (past : List Entry) (tag : Tag) (kind : Kind) (sb stripe : ℕ) (b : Bool) → Long (word_of_entry past tag kind)
-      → Long (sum_of coding start contents past sb stripe) → Long (sum_after past tag kind sb stripe (sum_when b adds))
-  added past tag kind sb stripe true long before =
-      length-bytes_sum (word_of_entry past tag kind) (sum_of coding start contents past sb stripe) (before ∙ sym long) ∙ long
-  added past tag kind sb stripe false long before = before
+  added : (past : List Entry) (tag : Tag) (kind : Kind) (sb stripe : ℕ) (b : Bool) → Whole (word_of_entry past tag kind)
+      → Whole (sum_of coding start contents past sb stripe) → Whole (sum_after past tag kind sb stripe (sum_when b adds))
+  added past tag kind sb stripe true made before =
+      sum_is_whole start.base is.fields (word_of_entry past tag kind) (sum_of coding start contents past sb stripe) made before
+  added past tag kind sb stripe false made before = before
 
   cleared : (past : List Entry) (tag : Tag) (kind : Kind) (sb stripe : ℕ) (b : Bool)
-      → Long (sum_of coding start contents past sb stripe) → Long (sum_after past tag kind sb stripe (sum_when b clears))
-  cleared past tag kind sb stripe true before = length-replicate (word_bytes_of (sizes_of start.base.shape)) 0
+      → Whole (sum_of coding start contents past sb stripe) → Whole (sum_after past tag kind sb stripe (sum_when b clears))
+  cleared past tag kind sb stripe true before = no_sum_is_whole start.base is.fields
   cleared past tag kind sb stripe false before = before
 
-  sum_step : (past : List Entry) (tag : Tag) (kind : Kind) (sb stripe : ℕ) → WordIsLong past tag kind
-      → Long (sum_of coding start contents past sb stripe)
-      → Long (sum_after past tag kind sb stripe (sum_change start.base.shape.dies sb stripe kind))
-  sum_step past tag (Kind.Write row slot) sb stripe long before = added past tag (Kind.Write row slot) sb stripe _ long before
-  sum_step past tag (Kind.BadWrite row slot die fault) sb stripe long before =
-      added past tag (Kind.BadWrite row slot die fault) sb stripe _ long before
-  sum_step past tag (Kind.Move at slot) sb stripe long before = added past tag (Kind.Move at slot) sb stripe _ long before
-  sum_step past tag (Kind.BadCopy at slot die fault) sb stripe long before =
-      added past tag (Kind.BadCopy at slot die fault) sb stripe _ long before
-  sum_step past tag (Kind.Erase named) sb stripe long before = cleared past tag (Kind.Erase named) sb stripe (named == sb) before
-  sum_step past tag kind sb stripe long before = before
+  sum_step : (past : List Entry) (tag : Tag) (kind : Kind) (sb stripe : ℕ) → WordIsWhole past tag kind
+      → Whole (sum_of coding start contents past sb stripe)
+      → Whole (sum_after past tag kind sb stripe (sum_change start.base.shape.dies sb stripe kind))
+  sum_step past tag (Kind.Write row slot) sb stripe made before = added past tag (Kind.Write row slot) sb stripe _ made before
+  sum_step past tag (Kind.BadWrite row slot die fault) sb stripe made before =
+      added past tag (Kind.BadWrite row slot die fault) sb stripe _ made before
+  sum_step past tag (Kind.Move at slot) sb stripe made before = added past tag (Kind.Move at slot) sb stripe _ made before
+  sum_step past tag (Kind.BadCopy at slot die fault) sb stripe made before =
+      added past tag (Kind.BadCopy at slot die fault) sb stripe _ made before
+  sum_step past tag (Kind.Erase named) sb stripe made before = cleared past tag (Kind.Erase named) sb stripe (named == sb) before
+  sum_step past tag kind sb stripe made before = before
 
   -- senses after an entry
   sense_long : (level : ℤ) (page : Option StoredPage) → HasCells cells page → Long (sensed level (levels_in start.base page))
@@ -278,9 +281,9 @@ module _ (start : Start) (contents : List (Tag × List ℕ)) (is : IsStart start
   pages_are_whole [] lawful = at_start
   pages_are_whole (entry ∷ past) lawful =
       let before : AreWhole past = pages_are_whole past lawful.0 in
-      let long : WordIsLong past entry.tag entry.kind = word_is_long past entry.tag entry.kind before lawful.1.meets in
+      let made : WordIsWhole past entry.tag entry.kind = word_is_whole past entry.tag entry.kind before lawful.1.meets in
       record {
-        pages = λ place range. page_step past entry.tag entry.kind place before long (before.pages place range);
+        pages = λ place range. page_step past entry.tag entry.kind place before made (before.pages place range);
         senses = λ at. sense_step past entry.kind at lawful.1.in_range before;
-        sums = λ sb stripe. sum_step past entry.tag entry.kind sb stripe long (before.sums sb stripe);
+        sums = λ sb stripe. sum_step past entry.tag entry.kind sb stripe made (before.sums sb stripe);
       }

@@ -1,26 +1,29 @@
 -- May a channel begin again with what it has at its end, and is it read again once it is saved? What a channel stands for says
 -- what its superblocks, rows, sum and pages are. Each law is the contract of a function without a body.
 use Rattle.std.specs.Prelude.{ℕ, ◌^◌, ◌<◌, ◌≤◌, All, List, map, Option}
-use Rattle.chan_dies.specs.DiesState.{blocks_in, blocks_told}
+use Rattle.chan_dies.specs.DiesState.{blocks_in, die_at}
 use Rattle.chan_state.specs.ChannelState.{ChannelState, EndsWhole, StandsFor}
 use Rattle.contents_end.specs.ContentsEnd.{IsSavable}
 use Rattle.onfi_cmd.specs.DieState.{DieState, programmed_in}
-use Rattle.ssd_geo.specs.Coding.{matrix_of}
-use Rattle.ssd_geo.specs.Codewords.{IsCodeword}
-use Rattle.ssd_geo.specs.PageWord.{code_in}
-use Rattle.ssd_geo.specs.Shape.{sizes_of}
+use Rattle.ssd_geo.specs.declared.base.BlockBase.{BlockBase}
 use Rattle.ssd_geo.specs.declared.base.ChannelBase.{ChannelBase}
+use Rattle.ssd_geo.specs.declared.entry.Entry.{Entry}
 use Rattle.ssd_geo.specs.declared.policy_view.PolicyView.{PolicyView}
+use Rattle.ssd_geo.specs.declared.shape.Shape.{Shape}
 use Rattle.ssd_geo.specs.declared.tag.Tag.{Tag}
 use Rattle.ssd_histories.specs.Standing.{IsStart}
 use Rattle.ssd_histories.specs.Start.{Start}
-use Rattle.run_laws.specs.Serials.{HasSmallSerials}
-use Rattle.ssd_formats.specs.ImageContents.{IsSaved, saved_channel}
+use Rattle.run_laws.specs.SpelledPasts.{IsSmallTag}
+use Rattle.ssd_formats.specs.ImageContents.{ChannelImage, IsSaved, saved_channel}
 use Rattle.ssd_formats.specs.ImageHead.{Head, IsHead}
 
 -- the base at the end of a channel: the parts that its steps change, and all else as at its start
 abbrev pub base_at_end : ChannelBase → ChannelState → ChannelBase
 base_at_end base channel = record base { blocks = channel.blocks; rows = channel.rows; sum = channel.sum }
+
+-- what a channel is saved as at its end: what that base and its dies tell
+abbrev pub image_at_end : ChannelBase → ChannelState → ChannelImage
+image_at_end base channel = saved_channel (base_at_end base channel) (map blocks_in channel.dies)
 
 -- what a channel has at its end, as the start of the next session with this view of a policy
 abbrev pub start_at_end : Start → ChannelState → Option PolicyView → Start
@@ -33,32 +36,36 @@ start_at_end start channel view = record {
   view = view;
 }
 
--- no block has more programmed pages than there are; the running sum is of codewords; and the serials of rows have 64 bits
-pub record HasContents (start : Start) (channel : ChannelState) : Type 0 where
-  pub few_pages :
-      (die sb : ℕ) → die < start.base.shape.dies → sb < start.base.shape.superblocks
-      → programmed_in (blocks_told channel.dies die) sb ≤ start.base.shape.pages
-  pub sum_codewords :
-      (f : ℕ) → f < start.base.shape.words
-      → IsCodeword (matrix_of start.base) (code_in (sizes_of start.base.shape) channel.sum f)
-  pub serials : HasSmallSerials (base_at_end start.base channel)
+-- no block of a die has more programmed pages than a block has pages, and so it is with each die of a channel
+abbrev pub HasFewPages : Shape → DieState → Type 0
+HasFewPages shape die = (sb : ℕ) → sb < shape.superblocks → programmed_in (blocks_in die) sb ≤ shape.pages
 
--- a channel has ended that stood for a start and contents, with no superblock erased too often for an image
+abbrev pub HaveFewPages : Shape → List DieState → Type 0
+HaveFewPages shape dies = (die : ℕ) → die < shape.dies → HasFewPages shape (die_at dies die)
+
+-- a channel has ended that stood for a start and contents
 pub record HasEnded (view : Option PolicyView) (start : Start) (contents : List (Tag × List ℕ)) (channel : ChannelState) : Type 0 where
   pub stands : StandsFor channel view start contents
   pub whole : EndsWhole channel
-  pub few_erases : All (λ block. block.erases ≤ 2 ^ 31) channel.blocks
-  pub has_contents : HasContents start channel
+  pub few_pages : HaveFewPages start.base.shape channel.dies
 
--- what it has then is a start
+-- no superblock was erased too often for an image
+abbrev pub HasFewErases : List BlockBase → Type 0
+HasFewErases blocks = All (λ block. block.erases ≤ 2 ^ 31) blocks
+
+-- what an ended channel has is a start
 abbrev pub EndedChannelsStartAgain : Type 0
 EndedChannelsStartAgain =
     (view next : Option PolicyView) (start : Start) (contents : List (Tag × List ℕ)) (channel : ChannelState) →
-    HasEnded view start contents channel → IsStart (start_at_end start channel next)
+    HasEnded view start contents channel → HasFewErases channel.blocks → IsStart (start_at_end start channel next)
 
--- and where the start could be saved, it is read again once it is saved
+-- the numbers of an entry's call fit their fields
+abbrev pub HasSmallTag : Entry → Type 0
+HasSmallTag entry = IsSmallTag entry.tag
+
+-- and where the start could be saved and the numbers of its calls fit their fields, it is read again once it is saved
 abbrev pub EndedChannelsAreSaved : Type 0
 EndedChannelsAreSaved =
     (head : Head) (number : ℕ) (view : Option PolicyView) (start : Start) (contents : List (Tag × List ℕ)) (channel : ChannelState) →
     IsHead head → IsSavable head number start → HasEnded view start contents channel →
-    IsSaved head number (saved_channel (base_at_end start.base channel) (map blocks_in channel.dies))
+    HasFewErases channel.blocks → All HasSmallTag channel.past → IsSaved head number (image_at_end start.base channel)

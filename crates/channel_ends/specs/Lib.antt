@@ -1,1 +1,3 @@
 pub mod ChannelEnds
+pub mod EndedRuns
+pub mod SavedImage

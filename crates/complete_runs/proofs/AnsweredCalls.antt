@@ -1,11 +1,9 @@
 -- Each read of a run that began blank answers what its row holds: the contents give the data of each write, and a call that was
 -- answered was made whole.
-use Rattle.std.proofs.Common.{◌≡◌, ℕ, ◌<◌, ◌==◌, ◌/◌, ◌%◌, nat_lt, Bool, true, false, List, [], ◌∷◌, ◌++◌, length, sym, ap, subst, ◌∙◌, Some, ℤ, arith, All, append_assoc}
+use Rattle.std.proofs.Common.{◌≡◌, ℕ, ◌==◌, ◌/◌, ◌%◌, Bool, true, false, List, [], ◌∷◌, ◌++◌, length, sym, ap, subst, ◌∙◌, Some, ℤ, All, append_assoc}
 use Rattle.std.specs.Prelude.{IsSomeAnd, slice_index_or}
 use Rattle.std.proofs.lemmas.Bool.{false≢true}
-use Rattle.std.proofs.lemmas.Bool.Decides.{nat_tests}
 use Rattle.std.proofs.lemmas.List.Elements.{All-cons, All-head, All-nil, All-tail, All-weaker}
-use Rattle.std.proofs.lemmas.Option.{slice_get_within}
 use Rattle.ssd_formats.specs.ImageHead.{Head}
 use Rattle.ssd_formats.specs.TraceText.{contents_of}
 use Rattle.ssd_geo.specs.declared.reply.Reply.{Reply}
@@ -13,7 +11,7 @@ use Rattle.ssd_geo.specs.declared.row.Row.{Row}
 use Rattle.ssd_geo.specs.declared.tag.Tag.{Tag}
 use Rattle.ssd_geo.specs.declared.trace.TraceCall.{TraceCall}
 use Rattle.ssd_geo.specs.declared.trace.Verb.{Verb}
-use Rattle.ssd_histories.specs.CallsInOrder.{AreCallSteps, AreNumberedAfter, ChannelRun, IsAsAnswered, IsReplyBy, IsWhole, OnOwnChannel, answered_by, ladder_in, reply_to, steps_on}
+use Rattle.ssd_histories.specs.CallsInOrder.{AreCallSteps, AreNumberedAfter, ChannelRun, IsReplyBy, IsWhole, OnOwnChannel, ladder_in, steps_on}
 use Rattle.ssd_histories.specs.Copies.{IsRead}
 use Rattle.ssd_histories.specs.LastWrites.{IsData}
 use Rattle.ssd_histories.specs.Replies.{read_reply}
@@ -24,11 +22,11 @@ use Rattle.recovery_laws.proofs.StartPages.{starts_have_named_pages}
 use Rattle.recovery_laws.proofs.WritingCalls.{traced_runs_are_written}
 use Rattle.serial_laws.proofs.Lists.{all_both}
 use Rattle.run_laws.specs.FirstSenses.{IsUnagedPast, ReadsBack}
-use Rattle.run_laws.specs.Headline.{Headline}
 use Rattle.run_laws.specs.Runs.{Run, channels_of, data_in}
 use Rattle.run_laws.specs.SerialRuns.{HasCalls, HasData}
 use Rattle.run_laws.proofs.TaggedData.{tags_give_data}
 use Rattle.complete_runs.specs.BlankRuns.{BeginsBlank}
+use Rattle.complete_runs.specs.OrderedRuns.{IsOrderedRun}
 use Rattle.complete_runs.specs.PlainAnswers.{AnswersPlain, BlankRunsAnswerReads, FirstSensesAnswerReads, IsUnaged, ReadsAnswerPlain}
 use Rattle.complete_runs.specs.ToldLevels.{TellsApart}
 use Rattle.complete_runs.specs.UncountedRuns.{IsFaultless}
@@ -94,7 +92,7 @@ module _ (contents : List (Tag × List ℕ)) (runs : List ChannelRun) (answer : 
       (reads_answer_plain contents run tag (page / length runs) reply has.empty has.unaged has.faultless own is))
   verb_answers verb whole of_run = tt
 
-module _ (head : Head) (run : Run) (blank : BeginsBlank head run) (has_calls : HasCalls head run) (headline : Headline head run) where
+module _ (head : Head) (run : Run) (blank : BeginsBlank head run) (has_calls : HasCalls head run) (ordered : IsOrderedRun head run) where
   abbrev contents : List (Tag × List ℕ)
   contents = data_in head run
 
@@ -112,7 +110,7 @@ module _ (head : Head) (run : Run) (blank : BeginsBlank head run) (has_calls : H
       (λ (channel : ChannelRun). IsPastOf channel.start contents channel.past) RunsWell
       (λ channel begins is_past. (begins, is_past)) (channels_of run)
       (starts_of_channels BeginsWell run.starts run.pasts
-      (λ k other within. (starts_are_blank head run blank k other within, has_calls.same_bytes k other within))) headline.are_pasts
+      (λ k other within. (starts_are_blank head run blank k other within, has_calls.same_bytes k other within))) ordered.are_pasts
 
   are_written : All (IsWrittenRun contents) (channels_of run)
   are_written =
@@ -124,7 +122,7 @@ module _ (head : Head) (run : Run) (blank : BeginsBlank head run) (has_calls : H
         has_contents =
             subst (λ (count : ℕ). All (λ call. HasContents count contents call.tag call.verb) run.calls.calls) (sym well.0.1)
             (rest_data run.calls.actors head.sizes.bytes [] run.calls.calls has_calls.numbered has_calls.have_data);
-      }) (channels_of run) all_run) headline.in_order
+      }) (channels_of run) all_run) ordered.in_order
 
   pub all_answer : All (λ channel. ReadsBack channel.start.base) (channels_of run) → All IsUnaged (channels_of run) →
       All IsFaultless (channels_of run) → All (AnswersReads contents) (channels_of run)
@@ -144,19 +142,19 @@ module _ (head : Head) (run : Run) (blank : BeginsBlank head run) (has_calls : H
       }
 
 pub first_senses_answer_reads : FirstSensesAnswerReads
-first_senses_answer_reads head run blank reads has_calls headline none unaged = λ k other within reply is.
+first_senses_answer_reads head run blank reads has_calls ordered none unaged = λ k other within reply is.
     let call : TraceCall = slice_index_or run.calls.calls k other in
     verb_answers (data_in head run) (channels_of run)
-    (all_answer head run blank has_calls headline reads unaged (uncounted_runs_are_faultless head run headline none)) call.tag reply call.verb
-    (whole_call (data_in head run) (channels_of run) call run.replies reply (headline.in_order.made k other within) is)
-    (headline.are_replies.are_replies k other within reply is)
+    (all_answer head run blank has_calls ordered reads unaged (uncounted_runs_are_faultless head run ordered none)) call.tag reply call.verb
+    (whole_call (data_in head run) (channels_of run) call run.replies reply (ordered.in_order.made k other within) is)
+    (ordered.are_replies.are_replies k other within reply is)
 
 -- so it is where the first read level tells the cells apart
 pub blank_runs_answer_reads : BlankRunsAnswerReads
-blank_runs_answer_reads head run blank apart has_calls headline none unaged =
-    first_senses_answer_reads head run blank reads has_calls headline none (unaged_calls_age_none head run headline unaged)
+blank_runs_answer_reads head run blank apart has_calls ordered none unaged =
+    first_senses_answer_reads head run blank reads has_calls ordered none (unaged_calls_age_none head run ordered unaged)
   where
-    told : (channel : ChannelRun) → RunsWell head run blank has_calls headline channel → ReadsBack channel.start.base
+    told : (channel : ChannelRun) → RunsWell head run blank has_calls ordered channel → ReadsBack channel.start.base
     told channel well =
         told_levels_read_back channel.start.base well.1.is_start.fields.matrix
         (subst (λ (levels : List ℤ). TellsApart levels channel.start.base.law) (sym well.0.0.is_base.read_levels)
@@ -164,5 +162,5 @@ blank_runs_answer_reads head run blank apart has_calls headline none unaged =
 
     reads : All (λ channel. ReadsBack channel.start.base) (channels_of run)
     reads =
-        All-weaker (RunsWell head run blank has_calls headline) (λ (channel : ChannelRun). ReadsBack channel.start.base) told (channels_of run)
-        (all_run head run blank has_calls headline)
+        All-weaker (RunsWell head run blank has_calls ordered) (λ (channel : ChannelRun). ReadsBack channel.start.base) told (channels_of run)
+        (all_run head run blank has_calls ordered)

@@ -56,11 +56,11 @@ die_number channels dies channel die low own =
     omega (arith, whole, one)
 
 pub uncounted_dies_count_none : UncountedDiesCountNone
-uncounted_dies_count_none asked limit before after views run over headline still =
+uncounted_dies_count_none asked limit before after views run over ordered still =
     let channels : ℕ = asked.head.sizes.channels in
     let dies : ℕ = asked.head.sizes.dies in
     let same : over.begins.shape.dies ≡ dies = ap {B = ℕ} (λ (sizes : Sizes). sizes.dies) over.begins.sizes_are in
-    let counted = headline.are_counted in
+    let counted = ordered.are_counted in
     rw (over.begins.starts_are, over.faults_are)
     (all_still over.begins.shape asked.head limit dies same before after views 0 channels asked.channels run.pasts
     (λ channel die low own. still (channel * dies + die) (die_number channels dies channel die (omega arith) own))

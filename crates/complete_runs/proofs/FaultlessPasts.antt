@@ -82,9 +82,9 @@ all_have_none (channel ∷ more) (counts ∷ others) counted none =
     (all_have_none more others counted.1 none.1)
 
 pub uncounted_runs_are_faultless : UncountedRunsAreFaultless
-uncounted_runs_are_faultless head run headline none =
+uncounted_runs_are_faultless head run ordered none =
     all_both (λ (channel : ChannelRun). IsPastOf channel.start (data_in head run) channel.past) HasNone IsFaultless
     (λ channel is_past has_none.
     is_faultless channel.start.base.shape channel.past
-    (all_in_range _ channel.start.base channel.past is_past.is_lawful) has_none) (channels_of run) headline.are_pasts
-    (all_have_none (channels_of run) run.faults headline.are_counted none)
+    (all_in_range _ channel.start.base channel.past is_past.is_lawful) has_none) (channels_of run) ordered.are_pasts
+    (all_have_none (channels_of run) run.faults ordered.are_counted none)

@@ -130,9 +130,9 @@ module _ (contents : List (Tag × List ℕ)) (runs : List ChannelRun) (faultless
       (λ step calm. single_tells_none step.entry.kind calm) there) is)
 
 pub uncounted_runs_reply_no_fault : UncountedRunsReplyNoFault
-uncounted_runs_reply_no_fault head run headline none some = λ k other within reply is.
+uncounted_runs_reply_no_fault head run ordered none some = λ k other within reply is.
     let call : TraceCall = slice_index_or run.calls.calls k other in
     let some_channel : 0 < length (channels_of run) =
-    subst (λ (n : ℕ). 0 < n) (sym (runs_as_many run.starts run.pasts headline.as_many_pasts)) some in
-    reply_tells_none (data_in head run) (channels_of run) (uncounted_runs_are_faultless head run headline none) some_channel call.tag
-    reply call.verb (headline.are_replies.are_replies k other within reply is)
+    subst (λ (n : ℕ). 0 < n) (sym (runs_as_many run.starts run.pasts ordered.as_many_pasts)) some in
+    reply_tells_none (data_in head run) (channels_of run) (uncounted_runs_are_faultless head run ordered none) some_channel call.tag
+    reply call.verb (ordered.are_replies.are_replies k other within reply is)

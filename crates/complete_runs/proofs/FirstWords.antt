@@ -2,7 +2,6 @@
 -- row held data has nothing but that sense to ask for: with it, it recovers the very word that stood in the page, at rung 0.
 use Rattle.std.proofs.Common.{◌≡◌, ℕ, ◌-◌, ◌==◌, Bool, true, false, List, [], ◌∷◌, ◌++◌, drop, length, refl, ap, sym, subst, ◌∙◌, Option, Some, None, ℤ, arith, All}
 use Rattle.std.specs.Prelude.{IsSomeAnd, IsSome, ⊤}
-use Rattle.std.proofs.lemmas.Bool.Decides.{nat_tests}
 use Rattle.std.proofs.lemmas.List.Elements.{All-drop, All-tail}
 use Rattle.ssd_geo.specs.Cells.{sensed}
 use Rattle.ssd_geo.specs.Coding.{Coding, coding_of}

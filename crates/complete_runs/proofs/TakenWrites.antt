@@ -24,9 +24,9 @@ use Rattle.blank_laws.proofs.BlankImages.{blank_images_take_writes}
 use Rattle.history_laws.specs.BlankChannels.{TakesWrites, has_no_bad_by_fault, has_no_weak_block, is_bad_by_fault}
 use Rattle.history_laws.proofs.BlankChannels.{none_is_refused}
 use Rattle.serial_laws.proofs.Lists.{all_both}
-use Rattle.run_laws.specs.Headline.{Headline}
 use Rattle.run_laws.specs.Runs.{Run, channels_of, data_in}
 use Rattle.complete_runs.specs.BlankRuns.{BeginsBlank}
+use Rattle.complete_runs.specs.OrderedRuns.{IsOrderedRun}
 use Rattle.complete_runs.specs.TakenWrites.{BlankRunsTakeWrites, IsDone}
 use Rattle.complete_runs.specs.UncountedRuns.{CountNone, IsFaultless}
 use Rattle.complete_runs.proofs.BlankStarts.{IsBlankStart, starts_are_blank, starts_of_channels}
@@ -117,25 +117,25 @@ write_is_done contents runs taken tag reply verb of_run = tt
 abbrev BeganBlank : Head → List (Tag × List ℕ) → ChannelRun → Type 0
 BeganBlank head contents channel = IsBlankStart head channel.start × IsPastOf channel.start contents channel.past
 
-all_began_blank : (head : Head) (run : Run) → BeginsBlank head run → Headline head run →
+all_began_blank : (head : Head) (run : Run) → BeginsBlank head run → IsOrderedRun head run →
     All (BeganBlank head (data_in head run)) (channels_of run)
-all_began_blank head run blank headline =
+all_began_blank head run blank ordered =
     all_both (λ (channel : ChannelRun). IsBlankStart head channel.start)
     (λ (channel : ChannelRun). IsPastOf channel.start (data_in head run) channel.past) (BeganBlank head (data_in head run))
     (λ channel is_blank is_past. (is_blank, is_past)) (channels_of run)
-    (starts_of_channels (IsBlankStart head) run.starts run.pasts (starts_are_blank head run blank)) headline.are_pasts
+    (starts_of_channels (IsBlankStart head) run.starts run.pasts (starts_are_blank head run blank)) ordered.are_pasts
 
 -- each channel of the run takes all its writes
-pub all_channels_take : (head : Head) (run : Run) → BeginsBlank head run → head.weak ≡ [] → Headline head run →
+pub all_channels_take : (head : Head) (run : Run) → BeginsBlank head run → head.weak ≡ [] → IsOrderedRun head run →
     CountNone (channels_of run) run.faults → All TakesAll (channels_of run)
-all_channels_take head run blank none_weak headline none =
+all_channels_take head run blank none_weak ordered none =
     all_both (BeganBlank head (data_in head run)) IsFaultless TakesAll
     (λ channel began calm.
     all_taken head channel.start blank.is_head began.0 none_weak began.1.is_start _ channel.past began.1.is_lawful calm) (channels_of run)
-    (all_began_blank head run blank headline) (uncounted_runs_are_faultless head run headline none)
+    (all_began_blank head run blank ordered) (uncounted_runs_are_faultless head run ordered none)
 
 pub blank_runs_take_writes : BlankRunsTakeWrites
-blank_runs_take_writes head run blank none_weak headline none = λ k other within reply is.
+blank_runs_take_writes head run blank none_weak ordered none = λ k other within reply is.
     let call : TraceCall = slice_index_or run.calls.calls k other in
-    write_is_done (data_in head run) (channels_of run) (all_channels_take head run blank none_weak headline none) call.tag reply call.verb
-    (headline.are_replies.are_replies k other within reply is)
+    write_is_done (data_in head run) (channels_of run) (all_channels_take head run blank none_weak ordered none) call.tag reply call.verb
+    (ordered.are_replies.are_replies k other within reply is)

@@ -16,11 +16,12 @@ use Rattle.serial_laws.proofs.NumberedTags.{numbered_front}
 use Rattle.serial_laws.proofs.OrderedCalls.{cut}
 use Rattle.serial_laws.proofs.ServedChains.{nothing_served}
 use Rattle.serial_laws.proofs.ServedVerbs.{IsCallCut}
-use Rattle.run_laws.specs.Headline.{Headline, IsStoppedRun, IsWholeRun}
+use Rattle.run_laws.specs.Headline.{IsStoppedRun, IsWholeRun}
 use Rattle.run_laws.specs.Runs.{Run, channels_of, data_in}
 use Rattle.run_laws.specs.SerialRuns.{HasCalls}
 use Rattle.run_laws.proofs.ChangedRuns.{runs_as_many}
 use Rattle.complete_runs.specs.BlankRuns.{BeginsBlank}
+use Rattle.complete_runs.specs.OrderedRuns.{IsOrderedRun}
 use Rattle.complete_runs.specs.PlainAnswers.{AgesNone, AnswersPlain, ReadsAnswerPlain, answer_of}
 use Rattle.complete_runs.specs.ToldLevels.{TellsApart}
 use Rattle.complete_runs.specs.TraceAnswers.{AnswersHeld, AreAnsweredHeld, BlankRunsAnswerTraces}
@@ -110,16 +111,16 @@ front_answers : (P : TraceCall → Type 0) (served rest calls : List TraceCall) 
 front_answers P served rest calls are all = all_front P served rest (subst (All P) are all)
 
 module _ (head : Head) (run : Run) (blank : BeginsBlank head run) (none_weak : head.weak ≡ []) (apart : TellsApart head.read_levels head.law)
-    (has_calls : HasCalls head run) (headline : Headline head run) (none : CountNone (channels_of run) run.faults)
+    (has_calls : HasCalls head run) (ordered : IsOrderedRun head run) (none : CountNone (channels_of run) run.faults)
     (unaged : All (λ call. AgesNone call.verb) run.calls.calls) where
   many : length (channels_of run) ≡ length run.starts
-  many = runs_as_many run.starts run.pasts headline.as_many_pasts
+  many = runs_as_many run.starts run.pasts ordered.as_many_pasts
 
   plain : AreAnswered run (λ call reply. ReadsAnswerPlain (data_in head run) (channels_of run) call.tag call.verb reply)
-  plain = blank_runs_answer_reads head run blank apart has_calls headline none unaged
+  plain = blank_runs_answer_reads head run blank apart has_calls ordered none unaged
 
   taken : All TakesAll (channels_of run)
-  taken = all_channels_take head run blank none_weak headline none
+  taken = all_channels_take head run blank none_weak ordered none
 
   whole_answers : IsWholeRun head run → AreAnsweredHeld run.replies head.sizes.bytes [] run.calls.calls
   whole_answers whole =
@@ -153,7 +154,7 @@ module _ (head : Head) (run : Run) (blank : BeginsBlank head run) (none_weak : h
       (none_answers_held run.replies head.sizes.bytes stop.served (stop.call ∷ stop.rest) stop.no_replies))
 
 pub blank_runs_answer_traces : BlankRunsAnswerTraces
-blank_runs_answer_traces head run blank none_weak apart has_calls headline (inl whole) none unaged =
-    whole_answers head run blank none_weak apart has_calls headline none unaged whole
-blank_runs_answer_traces head run blank none_weak apart has_calls headline (inr stopped) none unaged =
-    stopped_answers head run blank none_weak apart has_calls headline none unaged stopped.0 stopped.1 stopped.2
+blank_runs_answer_traces head run blank none_weak apart has_calls ordered (inl whole) none unaged =
+    whole_answers head run blank none_weak apart has_calls ordered none unaged whole
+blank_runs_answer_traces head run blank none_weak apart has_calls ordered (inr stopped) none unaged =
+    stopped_answers head run blank none_weak apart has_calls ordered none unaged stopped.0 stopped.1 stopped.2

@@ -76,7 +76,7 @@ module _ (ladder : List Entry → ℕ → LadderState) (base : ChannelBase) wher
   verb_unaged channels channel (Verb.Age named die sb amount) steps none are = absurd none
 
 pub unaged_calls_age_none : UnagedCallsAgeNone
-unaged_calls_age_none head run headline none =
-    all_entries_have IsNoAgeing (data_in head run) run.calls.calls run.replies (channels_of run) headline.in_order
+unaged_calls_age_none head run ordered none =
+    all_entries_have IsNoAgeing (data_in head run) run.calls.calls run.replies (channels_of run) ordered.in_order
     (λ k other within item steps are.
     verb_unaged (ladder_in (data_in head run) item.1) item.1.start.base (length (channels_of run)) item.0 _ steps (none k other within) are)

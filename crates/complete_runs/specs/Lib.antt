@@ -1,5 +1,6 @@
 pub mod BlankRuns
 pub mod CompleteRuns
+pub mod OrderedRuns
 pub mod PlainAnswers
 pub mod TakenWrites
 pub mod ToldLevels

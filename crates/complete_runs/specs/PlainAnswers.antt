@@ -10,10 +10,10 @@ use Rattle.ssd_histories.specs.CallSteps.{CallStep, is_look_at_row}
 use Rattle.ssd_histories.specs.CallsInOrder.{ChannelRun, OfRun, steps_on}
 use Rattle.ssd_histories.specs.PlainMap.{PlainRow, bytes, nothing, plain_of, untold}
 use Rattle.run_laws.specs.FirstSenses.{IsNoAgeing, ReadsBack}
-use Rattle.run_laws.specs.Headline.{Headline}
 use Rattle.run_laws.specs.Runs.{Run, channels_of, data_in}
 use Rattle.run_laws.specs.SerialRuns.{HasCalls}
 use Rattle.complete_runs.specs.BlankRuns.{BeginsBlank}
+use Rattle.complete_runs.specs.OrderedRuns.{IsOrderedRun}
 use Rattle.complete_runs.specs.ToldLevels.{TellsApart}
 use Rattle.complete_runs.specs.UncountedRuns.{AreAnswered, CountNone}
 
@@ -49,19 +49,19 @@ AgesNone verb = ⊤
 -- where no call does, no block was aged
 abbrev pub UnagedCallsAgeNone : Type 0
 UnagedCallsAgeNone =
-    (head : Head) (run : Run) → Headline head run → All (λ call. AgesNone call.verb) run.calls.calls →
+    (head : Head) (run : Run) → IsOrderedRun head run → All (λ call. AgesNone call.verb) run.calls.calls →
     All IsUnaged (channels_of run)
 
 -- each read answers so where the words of each channel are read from their first sense
 abbrev pub FirstSensesAnswerReads : Type 0
 FirstSensesAnswerReads =
     (head : Head) (run : Run) → BeginsBlank head run → All (λ channel. ReadsBack channel.start.base) (channels_of run) →
-    HasCalls head run → Headline head run → CountNone (channels_of run) run.faults → All IsUnaged (channels_of run) →
+    HasCalls head run → IsOrderedRun head run → CountNone (channels_of run) run.faults → All IsUnaged (channels_of run) →
     AreAnswered run (λ call reply. ReadsAnswerPlain (data_in head run) (channels_of run) call.tag call.verb reply)
 
 -- so each does where the first read level tells cells apart, and no call ages a block
 abbrev pub BlankRunsAnswerReads : Type 0
 BlankRunsAnswerReads =
     (head : Head) (run : Run) → BeginsBlank head run → TellsApart head.read_levels head.law → HasCalls head run →
-    Headline head run → CountNone (channels_of run) run.faults → All (λ call. AgesNone call.verb) run.calls.calls →
+    IsOrderedRun head run → CountNone (channels_of run) run.faults → All (λ call. AgesNone call.verb) run.calls.calls →
     AreAnswered run (λ call reply. ReadsAnswerPlain (data_in head run) (channels_of run) call.tag call.verb reply)

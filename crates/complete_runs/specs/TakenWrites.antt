@@ -5,9 +5,9 @@ use Rattle.std.specs.Prelude.{◌≡◌, [], ⊤}
 use Rattle.ssd_formats.specs.ImageHead.{Head}
 use Rattle.ssd_geo.specs.declared.reply.Reply.{Reply}
 use Rattle.ssd_geo.specs.declared.trace.Verb.{Verb}
-use Rattle.run_laws.specs.Headline.{Headline}
 use Rattle.run_laws.specs.Runs.{Run, channels_of}
 use Rattle.complete_runs.specs.BlankRuns.{BeginsBlank}
+use Rattle.complete_runs.specs.OrderedRuns.{IsOrderedRun}
 use Rattle.complete_runs.specs.UncountedRuns.{AreAnswered, CountNone}
 
 -- a write was done
@@ -18,5 +18,5 @@ IsDone verb reply = ⊤
 -- each write is done, where the drive began blank, it has no weak block and no die counted a fault
 abbrev pub BlankRunsTakeWrites : Type 0
 BlankRunsTakeWrites =
-    (head : Head) (run : Run) → BeginsBlank head run → head.weak ≡ [] → Headline head run →
+    (head : Head) (run : Run) → BeginsBlank head run → head.weak ≡ [] → IsOrderedRun head run →
     CountNone (channels_of run) run.faults → AreAnswered run (λ call reply. IsDone call.verb reply)

@@ -10,10 +10,11 @@ use Rattle.ssd_geo.specs.declared.trace.TraceCall.{TraceCall}
 use Rattle.ssd_geo.specs.declared.trace.Verb.{Verb}
 use Rattle.ssd_histories.specs.CallsInOrder.{reply_to}
 use Rattle.ssd_histories.specs.PlainMap.{PlainRow, bytes, nothing}
-use Rattle.run_laws.specs.Headline.{Headline, IsStoppedRun, IsWholeRun}
+use Rattle.run_laws.specs.Headline.{IsStoppedRun, IsWholeRun}
 use Rattle.run_laws.specs.Runs.{Run, channels_of}
 use Rattle.run_laws.specs.SerialRuns.{HasCalls}
 use Rattle.complete_runs.specs.BlankRuns.{BeginsBlank}
+use Rattle.complete_runs.specs.OrderedRuns.{IsOrderedRun}
 use Rattle.complete_runs.specs.PlainAnswers.{AgesNone, answer_of}
 use Rattle.complete_runs.specs.ToldLevels.{TellsApart}
 use Rattle.complete_runs.specs.UncountedRuns.{CountNone}
@@ -55,5 +56,5 @@ HasEnded head run = IsWholeRun head run ⊎ ((channel : ℕ) × (entries : ℕ) 
 abbrev pub BlankRunsAnswerTraces : Type 0
 BlankRunsAnswerTraces =
     (head : Head) (run : Run) → BeginsBlank head run → head.weak ≡ [] → TellsApart head.read_levels head.law →
-    HasCalls head run → Headline head run → HasEnded head run → CountNone (channels_of run) run.faults →
+    HasCalls head run → IsOrderedRun head run → HasEnded head run → CountNone (channels_of run) run.faults →
     All (λ call. AgesNone call.verb) run.calls.calls → AreAnsweredHeld run.replies head.sizes.bytes [] run.calls.calls

@@ -14,8 +14,8 @@ use Rattle.ssd_histories.specs.CallsInOrder.{ChannelRun, reply_to}
 use Rattle.ssd_histories.specs.Replies.{is_die_fault}
 use Rattle.ssd_histories.specs.Standing.{count_at}
 use Rattle.run_laws.specs.HandedCounts.{IsRunOver}
-use Rattle.run_laws.specs.Headline.{Headline}
 use Rattle.run_laws.specs.Runs.{FaultCounts, Run, channels_of}
+use Rattle.complete_runs.specs.OrderedRuns.{IsOrderedRun}
 
 -- a count is at the end what it was, and isn't at the greatest value, where it would stay
 pub record StoodStill (before now : ℕ) : Type 0 where
@@ -40,7 +40,7 @@ CountNone (channel ∷ more) (counts ∷ others) = CountsNone channel counts × 
 abbrev pub UncountedDiesCountNone : Type 0
 UncountedDiesCountNone =
     (asked : Input) (limit : ℕ) (before after : FaultCounts) (views : List (Option PolicyView)) (run : Run) →
-    IsRunOver asked limit before after views run → Headline asked.head run →
+    IsRunOver asked limit before after views run → IsOrderedRun asked.head run →
     ((die : ℕ) → die < asked.head.sizes.channels * asked.head.sizes.dies →
     StoodStill (count_at before.work die) (count_at after.work die)) →
     CountNone (channels_of run) run.faults
@@ -62,11 +62,11 @@ AreAnswered run fact = All (λ call. ForSome (reply_to run.replies call.tag) (fa
 -- where no die counted a fault, no entry tells of one
 abbrev pub UncountedRunsAreFaultless : Type 0
 UncountedRunsAreFaultless =
-    (head : Head) (run : Run) → Headline head run → CountNone (channels_of run) run.faults →
+    (head : Head) (run : Run) → IsOrderedRun head run → CountNone (channels_of run) run.faults →
     All IsFaultless (channels_of run)
 
 -- and no reply does, if there is a channel
 abbrev pub UncountedRunsReplyNoFault : Type 0
 UncountedRunsReplyNoFault =
-    (head : Head) (run : Run) → Headline head run → CountNone (channels_of run) run.faults →
+    (head : Head) (run : Run) → IsOrderedRun head run → CountNone (channels_of run) run.faults →
     0 < length run.starts → AreAnswered run (λ call reply. tells_fault reply ≡ false)

@@ -1,5 +1,5 @@
 //! Laws of the replies of a run. Each is the contract of a function that does nothing.
-ghost use Rattle.complete_runs.specs.CompleteRuns.{RunsAreComplete};
+ghost use Rattle.complete_runs.specs.CompleteRuns.{OrderedRunsAreComplete, RunsAreComplete};
 ghost use Rattle.complete_runs.specs.PlainAnswers.{BlankRunsAnswerReads, FirstSensesAnswerReads, UnagedCallsAgeNone};
 ghost use Rattle.complete_runs.specs.TakenWrites.{BlankRunsTakeWrites};
 ghost use Rattle.complete_runs.specs.ToldLevels.{ToldLevelsReadBack, ToldPagesAreReadAtOnce};
@@ -40,7 +40,8 @@ pub fn told_pages_are_read_at_once()
     ensures pages { ToldPagesAreReadAtOnce }
 {}
 
-/// So a run is complete.
+/// So a run is complete whose calls are in order, and one of which the statement holds.
 pub fn runs_are_complete()
-    ensures { RunsAreComplete }
+    ensures ordered { OrderedRunsAreComplete }
+    ensures runs { RunsAreComplete }
 {}

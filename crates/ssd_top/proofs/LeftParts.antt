@@ -1,15 +1,15 @@
--- What a run that was served left of its drive can be saved: the parts that its channels gave back are those that their pasts say,
--- and fit the sizes of the drive, and their dies tell their pages.
-use Rattle.std.proofs.Common.{ℕ, zero, suc, ◌≡◌, ◌<◌, List, [], ◌∷◌, length, map, slice_get, Some, refl, sym, ap, subst, ◌∙◌, arith}
+-- What a run that was served left of its drive can be saved: its channels came to the ends of their runs, the parts that they gave
+-- back fit the sizes of the drive, and their dies are mounted.
+use Rattle.std.proofs.Common.{ℕ, zero, suc, ◌≡◌, List, [], ◌∷◌, length, map, slice_get, Some, refl, sym, ap, subst, ◌∙◌, arith}
 use Rattle.std.specs.Prelude.{All, Option}
 use Rattle.std.proofs.lemmas.List.{length-map}
+use Rattle.std.proofs.lemmas.Simd.{map-map}
 use Rattle.blank_drive.proofs.SameSizes.{same_shape}
 use Rattle.chan_calls.specs.Workers.{WorkerState}
-use Rattle.chan_state.specs.ChannelState.{EndsWhole, parts_of}
+use Rattle.chan_dies.specs.DiesState.{AreMounted}
+use Rattle.chan_state.specs.ChannelState.{ChannelState, EndsWhole, StandsFor, parts_of}
 use Rattle.chan_state.specs.declared.parts.BaseParts.{BaseParts}
-use Rattle.contents_file.specs.DiesCopied.{AllTellPages}
 use Rattle.ctl.specs.Seen.{SeenChannel, pasts_of}
-use Rattle.drive_image.proofs.MountedDies.{mounted_tell}
 use Rattle.final_dies.specs.FinalDies.{dies_of_channel}
 use Rattle.onfi_cmd.specs.DieState.{DieState}
 use Rattle.run_laws.specs.Runs.{Run, channels_of, data_in, runs_with}
@@ -28,8 +28,7 @@ use Rattle.ssd_histories.specs.CallsInOrder.{ChannelRun}
 use Rattle.ssd_histories.specs.Start.{Start}
 use Rattle.ssd_top.proofs.ServedChannels.{StandInRun, dies_back, like_at, many_channels}
 use Rattle.ssd_top.specs.Forms.{input_of}
-use Rattle.ssd_top.specs.LeftDrives.{LeavesDrive, PartsFit}
-use Rattle.ssd_top.specs.Saving.{parts_left}
+use Rattle.ssd_top.specs.LeftDrives.{AreChannelsMounted, IsAtEnd, LeavesDrive, PartsFit}
 use Rattle.ssd_top.specs.Serving.{GiveBack}
 
 -- an item of a list through a function is that of an item of the list
@@ -40,32 +39,47 @@ of_mapped f (x ∷ xs) zero y is = (x, refl, cc)
 of_mapped f (x ∷ xs) (suc n) y is = of_mapped f xs n y is
 
 -- the run of a number has the start and the past of that number
+record IsRunAt (starts : List Start) (channels : List SeenChannel) (n : ℕ) (own : ChannelRun) : Type 0 where
+  start : Start
+  channel : SeenChannel
+  has_start : slice_get starts n ≡ Some start
+  has_channel : slice_get channels n ≡ Some channel
+  start_is : own.start ≡ start
+  past_is : channel.kept.past ≡ own.past
+
 run_at : (starts : List Start) (channels : List SeenChannel) (n : ℕ) (own : ChannelRun)
-    → slice_get (runs_with starts (pasts_of channels)) n ≡ Some own
-    → (start : Start) × (slice_get starts n ≡ Some start) × (own.start ≡ start)
+    → slice_get (runs_with starts (pasts_of channels)) n ≡ Some own → IsRunAt starts channels n own
 run_at [] channels n own is = absurd (cc)
 run_at (start ∷ starts) [] n own is = absurd (cc)
 run_at (start ∷ starts) (channel ∷ channels) zero own is =
     let same : record { start = start; past = channel.kept.past } ≡ own = cc in
-    (start, refl, ap (λ (run : ChannelRun). run.start) (sym same))
-run_at (start ∷ starts) (channel ∷ channels) (suc n) own is = run_at starts channels n own is
+    record {
+      start = start;
+      channel = channel;
+      has_start = refl;
+      has_channel = refl;
+      start_is = ap (λ (run : ChannelRun). run.start) (sym same);
+      past_is = ap (λ (run : ChannelRun). run.past) same;
+    }
+run_at (start ∷ starts) (channel ∷ channels) (suc n) own is =
+    let later : IsRunAt starts channels n own = run_at starts channels n own is in
+    record {
+      start = later.start;
+      channel = later.channel;
+      has_start = later.has_start;
+      has_channel = later.has_channel;
+      start_is = later.start_is;
+      past_is = later.past_is;
+    }
 
--- parts that are those of each past, channel by channel
-parts_from : (contents : List (Tag × List ℕ)) (starts : List Start) (channels : List SeenChannel)
-    → length channels ≡ length starts
-    → ((n : ℕ) (start : Start) (channel : SeenChannel) → slice_get starts n ≡ Some start → slice_get channels n ≡ Some channel
-    → parts_of channel.kept ≡ parts_left contents (record { start = start; past = channel.kept.past }))
-    → map (λ (channel : SeenChannel). parts_of channel.kept) channels
-    ≡ map (parts_left contents) (runs_with starts (pasts_of channels))
-parts_from contents [] [] many each = refl
-parts_from contents [] (channel ∷ channels) many each = absurd (omega (arith, many))
-parts_from contents (start ∷ starts) [] many each = absurd (omega (arith, many))
-parts_from contents (start ∷ starts) (channel ∷ channels) many each =
-    let first = each 0 start channel refl refl in
-    let rest =
-    parts_from contents starts channels (omega (arith, many))
-    (λ n other next has_start has_channel. each (suc n) other next has_start has_channel) in
-    λ i. first i ∷ rest i
+-- there are as many runs as channels
+as_many_runs : (starts : List Start) (channels : List SeenChannel) → length channels ≡ length starts
+    → length (runs_with starts (pasts_of channels)) ≡ length channels
+as_many_runs [] [] many = refl
+as_many_runs [] (channel ∷ channels) many = absurd (omega (arith, many))
+as_many_runs (start ∷ starts) [] many = refl
+as_many_runs (start ∷ starts) (channel ∷ channels) many =
+    ap (λ (n : ℕ). suc n) (as_many_runs starts channels (omega (arith, many)))
 
 module _ (head : ImageHead) (saved : ℕ → ChannelImage) (asked : Trace) (limit : ℕ) (dies : List DieState)
     (views : List (Option PolicyView)) (worker : WorkerState) (channels : List SeenChannel) (starts : List Start)
@@ -85,15 +99,6 @@ module _ (head : ImageHead) (saved : ℕ → ChannelImage) (asked : Trace) (limi
       (stand.standing.stand n there.0 channel there.1 has_channel).shape_is
       ∙ same_shape there.0.base.shape head.shape (start_sizes n there.0 there.1)
 
-  parts_are :
-      map (λ (channel : SeenChannel). parts_of channel.kept) channels
-      ≡ map (parts_left contents) (runs_with starts (pasts_of channels))
-  parts_are =
-      parts_from contents starts channels stand.standing.as_many
-      (λ n start channel has_start has_channel.
-      let stands = stand.standing.stand n start channel has_start has_channel in
-      λ i. record { blocks = stands.blocks_are i; rows = stands.rows_are i; sum = stands.dies_fit.sum_is i })
-
   -- the parts of a channel fit the sizes
   fit_at : (n : ℕ) (own : BaseParts)
       → slice_get (map (λ (channel : SeenChannel). parts_of channel.kept) channels) n ≡ Some own → PartsFit head.shape own
@@ -107,17 +112,39 @@ module _ (head : ImageHead) (saved : ℕ → ChannelImage) (asked : Trace) (limi
         row_count = ends.tables.rows_count ∙ ap (λ (shape : Shape). shape.rows) shape;
       })
 
-  tell_at : (n : ℕ) → n < head.shape.channels → AllTellPages head.shape (dies_of_channel head.shape.dies back n)
-  tell_at n below =
+  mounted_at : AreChannelsMounted head.shape back
+  mounted_at n below =
       let many : length channels ≡ head.shape.channels =
       many_channels (head_of head) saved asked limit dies views worker channels starts stand in
       let channel : IsItemAt channels n = item_at channels n (omega (arith, many, below)) in
       let ends : EndsWhole channel.item.kept =
       all_at (λ channel. EndsWhole channel.kept) channels n channel.item whole channel.is_there in
-      subst (AllTellPages head.shape)
+      subst (AreMounted head.shape)
       (sym (dies_back (head_of head) saved asked limit dies views worker channels starts stand back give n channel.item channel.is_there))
-      (subst (λ (shape : Shape). AllTellPages shape channel.item.kept.dies) (channel_shape n channel.item channel.is_there)
-      (mounted_tell channel.item.kept.shape channel.item.kept.dies ends.mounted))
+      (subst (λ (shape : Shape). AreMounted shape channel.item.kept.dies) (channel_shape n channel.item channel.is_there)
+      ends.mounted)
+
+  -- a channel is at the end of the run of its number
+  at_end : (n : ℕ) (own : ChannelRun) (channel : SeenChannel) → slice_get (runs_with starts (pasts_of channels)) n ≡ Some own
+      → slice_get channels n ≡ Some channel
+      → IsAtEnd contents own head.shape (dies_of_channel head.shape.dies back n) channel.kept
+  at_end n own channel has_own has_channel =
+      let there : IsRunAt starts channels n own = run_at starts channels n own has_own in
+      let same_some : Some there.channel ≡ Some channel = sym there.has_channel ∙ has_channel in
+      let same : there.channel ≡ channel = cc in
+      let stands : StandsFor channel.kept channel.view there.start contents =
+      stand.standing.stand n there.start channel there.has_start has_channel in
+      record {
+        view = channel.view;
+        past_is = ap (λ (other : SeenChannel). other.kept.past) (sym same) ∙ there.past_is;
+        stands = subst (λ (start : Start). StandsFor channel.kept channel.view start contents) (sym there.start_is) stands;
+        whole = all_at (λ channel. EndsWhole channel.kept) channels n channel whole has_channel;
+        shape_is =
+            ap (λ (start : Start). start.base.shape) there.start_is
+            ∙ same_shape there.start.base.shape head.shape (start_sizes n there.start there.has_start);
+        dies_are =
+            sym (dies_back (head_of head) saved asked limit dies views worker channels starts stand back give n channel has_channel);
+      }
 
   -- so a run with these starts and pasts left the drive
   pub leaves : (run : Run) → run.starts ≡ starts → run.pasts ≡ pasts_of channels → data_in (head_of head) run ≡ contents
@@ -125,21 +152,23 @@ module _ (head : ImageHead) (saved : ℕ → ChannelImage) (asked : Trace) (limi
   leaves run starts_are pasts_are data_is =
       let runs_are : channels_of run ≡ runs_with starts (pasts_of channels) = λ i. runs_with (starts_are i) (pasts_are i) in
       record {
-        parts_are =
-            subst (λ (runs : List ChannelRun). map (λ (channel : SeenChannel). parts_of channel.kept) channels
-            ≡ map (parts_left (data_in (head_of head) run)) runs) (sym runs_are)
-            (subst (λ (listed : List (Tag × List ℕ)). map (λ (channel : SeenChannel). parts_of channel.kept) channels
-            ≡ map (parts_left listed) (runs_with starts (pasts_of channels))) (sym data_is) parts_are);
-        sizes_are = λ channel own is.
-            let there =
-            run_at starts channels channel own
-            (subst (λ (runs : List ChannelRun). slice_get runs channel ≡ Some own) runs_are is) in
-            ap (λ (start : Start). sizes_of start.base.shape) there.2 ∙ start_sizes channel there.0 there.1;
+        channels = map (λ (channel : SeenChannel). channel.kept) channels;
+        as_many =
+            ap (λ (runs : List ChannelRun). length runs) runs_are ∙ as_many_runs starts channels stand.standing.as_many
+            ∙ sym (length-map channels (λ (channel : SeenChannel). channel.kept));
+        parts_are = sym (map-map parts_of (λ (channel : SeenChannel). channel.kept) channels);
+        at_end = λ n own channel has_own has_channel.
+            let seen = of_mapped (λ (channel : SeenChannel). channel.kept) channels n channel has_channel in
+            subst (λ (listed : List (Tag × List ℕ)). IsAtEnd listed own head.shape (dies_of_channel head.shape.dies back n) channel)
+            (sym data_is)
+            (subst (λ (kept : ChannelState). IsAtEnd contents own head.shape (dies_of_channel head.shape.dies back n) kept)
+            (sym seen.2)
+            (at_end n own seen.0 (subst (λ (runs : List ChannelRun). slice_get runs n ≡ Some own) runs_are has_own) seen.1));
         can_be_saved = record {
           as_many =
               length-map channels (λ (channel : SeenChannel). parts_of channel.kept)
               ∙ many_channels (head_of head) saved asked limit dies views worker channels starts stand;
           fit = fit_at;
-          tell = tell_at;
+          mounted = mounted_at;
         };
       }

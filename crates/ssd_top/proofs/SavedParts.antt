@@ -1,26 +1,30 @@
 -- Bases are made with the parts that channels gave back, and the image that is written of them is that of the run that left them.
-use Rattle.std.proofs.Common.{ℕ, zero, suc, ◌≡◌, ◌+◌, List, [], ◌∷◌, ◌++◌, length, map, slice_get, Some, true, refl, sym, ap, subst, ◌∙◌, add-zero, arith}
+use Rattle.std.proofs.Common.{ℕ, ◌<◌, zero, suc, ◌≡◌, ◌+◌, List, [], ◌∷◌, ◌++◌, length, map, slice_get, Some, true, refl, sym, ap, subst, ◌∙◌, add-zero, arith}
 use Rattle.std.specs.List.{enumerate_from}
 use Rattle.std.proofs.lemmas.List.{length-append, length-map}
 use Rattle.std.proofs.lemmas.Option.{slice_get_within}
 use Rattle.chan_state.specs.declared.parts.BaseParts.{BaseParts}
-use Rattle.contents_file.specs.DiesCopied.{cells_told}
-use Rattle.drive_image.specs.WholeImage.{AreBasesOf, saved_channels_of, saved_of}
+use Rattle.chan_dies.specs.DiesState.{blocks_in}
+use Rattle.chan_state.specs.ChannelState.{ChannelState, parts_of}
+use Rattle.channel_ends.proofs.HeldImages.{ended_runs_hold_their_images}
+use Rattle.channel_ends.specs.ChannelEnds.{HaveFewPages, base_at_end, image_at_end}
+use Rattle.channel_ends.specs.EndedRuns.{EndRuns, images_at_end}
+use Rattle.channel_ends.specs.SavedImage.{images_of_run, saved_image}
+use Rattle.drive_image.proofs.MountedDies.{mounted_tell}
+use Rattle.drive_image.specs.WholeImage.{AreBasesOf, ChannelsTellPages, saved_channels_of, saved_of}
 use Rattle.final_dies.specs.FinalDies.{dies_of_channel}
 use Rattle.onfi_cmd.specs.DieState.{DieState}
 use Rattle.run_laws.specs.Runs.{Run, channels_of, data_in}
 use Rattle.ssd_formats.specs.ImageContents.{ChannelImage, image_bytes, saved_channel}
 use Rattle.ssd_formats.specs.ImageHead.{Head, with_next_session}
-use Rattle.ssd_geo.specs.Limits.{Sizes}
-use Rattle.ssd_geo.specs.Shape.{sizes_of}
 use Rattle.ssd_geo.specs.declared.base.BlockBase.{BlockBase}
 use Rattle.ssd_geo.specs.declared.base.ChannelBase.{ChannelBase}
 use Rattle.ssd_geo.specs.declared.row.Row.{Row}
 use Rattle.ssd_geo.specs.declared.shape.Shape.{Shape}
 use Rattle.ssd_geo.specs.declared.tag.Tag.{Tag}
+use Rattle.ssd_histories.specs.CallsInOrder.{ChannelRun}
 use Rattle.ssd_top.proofs.ServedChannels.{like_at}
-use Rattle.ssd_top.specs.LeftDrives.{CanBeSaved, HasParts, HaveParts, LeavesDrive, OfImageLeft, PartsFit}
-use Rattle.ssd_top.specs.Saving.{base_left, channels_left, parts_left, saved_image, saved_left}
+use Rattle.ssd_top.specs.LeftDrives.{CanBeSaved, HasParts, HaveChannelsFewPages, HaveParts, IsAtEnd, LeavesDrive, OfImageLeft, PartsFit}
 
 -- ---- bases, one after the other
 
@@ -99,47 +103,91 @@ are_bases shape parts dies bases can have = record {
 
 -- ---- the image
 
--- lists of which each item gives the same are the same through what they give
-same_saved : {X Y Z : Type 0} (f : ℕ × X → Z) (g : ℕ × Y → Z) (from : ℕ) (xs : List X) (ys : List Y) → length xs ≡ length ys
-    → ((n : ℕ) (x : X) (y : Y) → slice_get xs n ≡ Some x → slice_get ys n ≡ Some y → f (from + n, x) ≡ g (from + n, y))
-    → map f (enumerate_from from xs) ≡ map g (enumerate_from from ys)
-same_saved f g from [] [] many each = refl
-same_saved f g from [] (y ∷ ys) many each = absurd (omega (arith, many))
-same_saved f g from (x ∷ xs) [] many each = absurd (omega (arith, many))
-same_saved {X = X} {Y = Y} f g from (x ∷ xs) (y ∷ ys) many each =
-    let first : f (from, x) ≡ g (from, y) =
-    subst (λ (n : ℕ). f (n, x) ≡ g (n, y)) (add-zero from) (each 0 x y refl refl) in
-    let rest : map f (enumerate_from (from + 1) xs) ≡ map g (enumerate_from (from + 1) ys) =
-    same_saved f g (from + 1) xs ys (omega (arith, many))
-    (λ n z w has_z has_w.
+-- channels at the ends of runs have ended, where their dies tell no more pages than a block has
+end_runs : (contents : List (Tag × List ℕ)) (shape : Shape) (dies : ℕ → List DieState) (from : ℕ) (runs : List ChannelRun)
+    (channels : List ChannelState) → length runs ≡ length channels
+    → ((n : ℕ) (own : ChannelRun) (channel : ChannelState) → slice_get runs n ≡ Some own → slice_get channels n ≡ Some channel
+    → IsAtEnd contents own shape (dies (from + n)) channel)
+    → ((n : ℕ) → n < length channels → HaveFewPages shape (dies (from + n)))
+    → EndRuns contents runs channels
+end_runs contents shape dies from [] [] many at_end few = tt
+end_runs contents shape dies from [] (channel ∷ channels) many at_end few = absurd (omega (arith, many))
+end_runs contents shape dies from (run ∷ runs) [] many at_end few = absurd (omega (arith, many))
+end_runs contents shape dies from (run ∷ runs) (channel ∷ channels) many at_end few =
+    let is : IsAtEnd contents run shape (dies (from + 0)) channel = at_end 0 run channel refl refl in
+    let few_here : HaveFewPages shape (dies (from + 0)) = few 0 (omega arith) in
+    let further : (n : ℕ) → from + suc n ≡ from + 1 + n = λ n. omega arith in (
+      record {
+        view = is.view;
+        past_is = is.past_is;
+        ended = record {
+          stands = is.stands;
+          whole = is.whole;
+          few_pages =
+              subst (λ (other : Shape). HaveFewPages other channel.dies) (sym is.shape_is)
+              (subst (HaveFewPages shape) (sym is.dies_are) few_here);
+        };
+      },
+      end_runs contents shape dies (from + 1) runs channels (omega (arith, many))
+          (λ n own other has_own has_other.
+          subst (λ (k : ℕ). IsAtEnd contents own shape (dies k) other) (further n) (at_end (suc n) own other has_own has_other))
+          (λ n below. subst (λ (k : ℕ). HaveFewPages shape (dies k)) (further n) (few (suc n) (omega (arith, below)))),
+    )
+
+-- bases are saved as the channels of their numbers at the end
+saved_at_end : (f : ℕ × ChannelBase → ChannelImage) (from : ℕ) (bases : List ChannelBase) (runs : List ChannelRun)
+    (channels : List ChannelState) → length bases ≡ length runs → length runs ≡ length channels
+    → ((n : ℕ) (base : ChannelBase) (own : ChannelRun) (channel : ChannelState) → slice_get bases n ≡ Some base
+    → slice_get runs n ≡ Some own → slice_get channels n ≡ Some channel
+    → f (from + n, base) ≡ image_at_end own.start.base channel)
+    → map f (enumerate_from from bases) ≡ images_at_end runs channels
+saved_at_end f from [] [] channels many as_many each = refl
+saved_at_end f from [] (run ∷ runs) channels many as_many each = absurd (omega (arith, many))
+saved_at_end f from (base ∷ bases) [] channels many as_many each = absurd (omega (arith, many))
+saved_at_end f from (base ∷ bases) (run ∷ runs) [] many as_many each = absurd (omega (arith, as_many))
+saved_at_end f from (base ∷ bases) (run ∷ runs) (channel ∷ channels) many as_many each =
+    let first : f (from, base) ≡ image_at_end run.start.base channel =
+    subst (λ (n : ℕ). f (n, base) ≡ image_at_end run.start.base channel) (add-zero from) (each 0 base run channel refl refl refl) in
+    let rest : map f (enumerate_from (from + 1) bases) ≡ images_at_end runs channels =
+    saved_at_end f (from + 1) bases runs channels (omega (arith, many)) (omega (arith, as_many))
+    (λ n z own w has_z has_own has_w.
     let further : from + suc n ≡ from + 1 + n = omega arith in
-    subst (λ (k : ℕ). f (k, z) ≡ g (k, w)) further (each (suc n) z w has_z has_w)) in
+    subst (λ (k : ℕ). f (k, z) ≡ image_at_end own.start.base w) further (each (suc n) z own w has_z has_own has_w)) in
     λ i. first i ∷ rest i
 
 -- a channel is saved as its base and dies say, whatever else its base has
-same_channel : (base other : ChannelBase) (dies : List DieState) → sizes_of base.shape ≡ sizes_of other.shape
-    → base.blocks ≡ other.blocks → base.rows ≡ other.rows → base.sum ≡ other.sum
-    → saved_channel base (cells_told dies) ≡ saved_channel other (cells_told dies)
-same_channel base other dies sizes blocks rows sum = rw (sizes, blocks, rows, sum) refl
+same_channel : (base other : ChannelBase) (dies others : List DieState) → base.shape ≡ other.shape
+    → base.blocks ≡ other.blocks → base.rows ≡ other.rows → base.sum ≡ other.sum → dies ≡ others
+    → saved_channel base (map blocks_in dies) ≡ saved_channel other (map blocks_in others)
+same_channel base other dies others shape blocks rows sum same = rw (shape, blocks, rows, sum, same) refl
 
--- bases with the parts that a run left are saved as the channels of the run
-pub saved_as_left : (head : Head) (shape : Shape) (run : Run) (parts : List BaseParts) (bases : List ChannelBase) (dies : List DieState)
-    → sizes_of shape ≡ head.sizes → LeavesDrive head shape run parts dies → HaveParts shape parts bases
-    → saved_channels_of shape bases dies ≡ channels_left head run dies
-saved_as_left head shape run parts bases dies sizes_are leaves have =
+-- bases with the parts that a run left are saved as the run says
+saved_as_left : (head : Head) (shape : Shape) (run : Run) (parts : List BaseParts) (bases : List ChannelBase) (dies : List DieState)
+    → LeavesDrive head shape run parts dies → HaveParts shape parts bases → HaveChannelsFewPages shape dies
+    → saved_channels_of shape bases dies ≡ images_of_run head run
+saved_as_left head shape run parts bases dies leaves have few =
     let contents : List (Tag × List ℕ) = data_in head run in
-    let many : length bases ≡ length (channels_of run) =
-    have.as_many ∙ ap (λ (all : List BaseParts). length all) leaves.parts_are ∙ length-map (channels_of run) (parts_left contents) in
-    same_saved (saved_of shape dies) (saved_left contents head.sizes.dies dies) 0 bases (channels_of run) many
-    (λ n base own has_base has_own.
-    let part : (slice_get parts n ≡ Some (parts_left contents own)) =
-    ap (λ (all : List BaseParts). slice_get all n) leaves.parts_are ∙ mapped_at (parts_left contents) (channels_of run) n own has_own in
-    let has : HasParts shape n (parts_left contents own) base = have.each n (parts_left contents own) base part has_base in
-    let count : shape.dies ≡ head.sizes.dies = ap (λ (sizes : Sizes). sizes.dies) sizes_are in
-    subst (λ (k : ℕ). saved_channel base (cells_told (dies_of_channel k dies (0 + n)))
-    ≡ saved_channel (base_left contents own) (cells_told (dies_of_channel head.sizes.dies dies (0 + n)))) (sym count)
-    (same_channel base (base_left contents own) (dies_of_channel head.sizes.dies dies (0 + n))
-    (ap sizes_of has.shape_is ∙ sym (leaves.sizes_are n own has_own)) has.blocks_are has.rows_are has.sum_is))
+    let as_many_parts : length parts ≡ length leaves.channels =
+    ap (λ (all : List BaseParts). length all) leaves.parts_are ∙ length-map leaves.channels parts_of in
+    let none : (n : ℕ) → 0 + n ≡ n = λ n. omega arith in
+    let of_number : ℕ → List DieState = λ n. dies_of_channel shape.dies dies n in
+    let count : length leaves.channels ≡ shape.channels = sym as_many_parts ∙ leaves.can_be_saved.as_many in
+    saved_at_end (saved_of shape dies) 0 bases (channels_of run) leaves.channels
+    (have.as_many ∙ as_many_parts ∙ sym leaves.as_many) leaves.as_many
+    (λ n base own channel has_base has_own has_channel.
+    let part : slice_get parts n ≡ Some (parts_of channel) =
+    ap (λ (all : List BaseParts). slice_get all n) leaves.parts_are ∙ mapped_at parts_of leaves.channels n channel has_channel in
+    let has : HasParts shape n (parts_of channel) base = have.each n (parts_of channel) base part has_base in
+    let is : IsAtEnd contents own shape (of_number n) channel = leaves.at_end n own channel has_own has_channel in
+    subst (λ (k : ℕ). saved_of shape dies (k, base) ≡ image_at_end own.start.base channel) (sym (none n))
+    (same_channel base (base_at_end own.start.base channel) (of_number n) channel.dies
+    (has.shape_is ∙ sym is.shape_is) has.blocks_are has.rows_are has.sum_is (sym is.dies_are)))
+    ∙ ended_runs_hold_their_images head run leaves.channels
+    (end_runs contents shape of_number 0 (channels_of run) leaves.channels leaves.as_many
+    (λ n own channel has_own has_channel.
+    subst (λ (k : ℕ). IsAtEnd contents own shape (of_number k) channel) (sym (none n))
+    (leaves.at_end n own channel has_own has_channel))
+    (λ n below. subst (λ (k : ℕ). HaveFewPages shape (of_number k)) (sym (none n)) (few n (omega (arith, below, count)))))
   where
     mapped_at : {X Y : Type 0} (f : X → Y) (xs : List X) (n : ℕ) (x : X) → slice_get xs n ≡ Some x
         → slice_get (map f xs) n ≡ Some (f x)
@@ -149,8 +197,14 @@ saved_as_left head shape run parts bases dies sizes_are leaves have =
 
 -- so what is said of their image is said of that of the run
 pub of_run : (head : Head) (shape : Shape) (run : Run) (parts : List BaseParts) (dies : List DieState) (P : List ℕ → Type 0)
-    → sizes_of shape ≡ head.sizes → LeavesDrive head shape run parts dies → OfImageLeft head shape parts dies P
-    → P (saved_image head run dies)
-of_run head shape run parts dies P sizes_are leaves image =
+    → LeavesDrive head shape run parts dies → HaveChannelsFewPages shape dies → OfImageLeft head shape parts dies P
+    → P (saved_image head run)
+of_run head shape run parts dies P leaves few image =
     subst (λ (channels : List ChannelImage). P (image_bytes (with_next_session head true) channels))
-    (saved_as_left head shape run parts image.bases dies sizes_are leaves image.have_parts) image.of_image
+    (saved_as_left head shape run parts image.bases dies leaves image.have_parts few) image.of_image
+
+-- the dies of a drive that can be saved tell their pages
+pub channels_tell : (shape : Shape) (parts : List BaseParts) (dies : List DieState) → CanBeSaved shape parts dies
+    → ChannelsTellPages shape dies
+channels_tell shape parts dies can channel below =
+    mounted_tell shape (dies_of_channel shape.dies dies channel) (can.mounted channel below)

@@ -7,6 +7,7 @@ use Rattle.std.proofs.lemmas.Bool.{cases_eq}
 use Rattle.std.proofs.lemmas.Option.{get_or_from_slice_get, slice_get-get_or, slice_get_within}
 use Rattle.chan_dies.specs.DiesState.{die_at, no_die}
 use Rattle.chan_state.specs.declared.parts.BaseParts.{BaseParts}
+use Rattle.channel_ends.specs.SavedImage.{saved_image}
 use Rattle.contents_file.specs.DiesCopied.{FailsAt, FaultsLoad}
 use Rattle.drive_dies.specs.Mounting.{CountsLoad}
 use Rattle.onfi_cmd.specs.DieState.{DieState}
@@ -24,8 +25,7 @@ use Rattle.ssd_top.proofs.SavedParts.{of_run}
 use Rattle.ssd_top.proofs.ServedChannels.{stays_at}
 use Rattle.ssd_top.specs.Commands.{AreSavedBack, FailsSaving, SavesRun}
 use Rattle.ssd_top.specs.HandedBack.{AllCountRuns, AreHandedBack, CountsRun, CountsRunOrLoad}
-use Rattle.ssd_top.specs.LeftDrives.{AreLeft, FailsBelow, IsLeftWritten, OfImageLeft}
-use Rattle.ssd_top.specs.Saving.{saved_image}
+use Rattle.ssd_top.specs.LeftDrives.{AreLeft, FailsBelow, HaveChannelsFewPages, IsLeftWritten, OfImageLeft}
 use Rattle.ssd_top.specs.Serving.{EndsAt, HasServed, IsStop}
 use Rattle.ssd_top.specs.declared.served.Served.{Served}
 use Rattle.ssd_top.specs.declared.status.Status.{Status}
@@ -138,7 +138,7 @@ module _ (settings : Settings) (before after : Option (List ℕ)) (dies : List D
   head = has.asked.head
 
   abbrev saves : (Ended : Head → Run → Type 0) (IsWritten : List ℕ → Type 0) → Ended head has.of_input.run
-      → IsWritten (saved_image head has.of_input.run left) → SavesRun settings before after dies views left Ended IsWritten
+      → IsWritten (saved_image head has.of_input.run) → SavesRun settings before after dies views left Ended IsWritten
   saves Ended IsWritten ended written = record {
     asked = has.asked;
     run = has.of_input.run;
@@ -168,16 +168,18 @@ module _ (settings : Settings) (before after : Option (List ℕ)) (dies : List D
 
   -- a whole one, of whose image this holds
   abbrev pub saves_whole : (IsWritten : List ℕ → Type 0) → served.printed.full ≡ None
+      → HaveChannelsFewPages served.printed.head.shape left
       → OfImageLeft (head_of served.printed.head) served.printed.head.shape served.parts.items left IsWritten
       → SavesRun settings before after dies views left IsWholeRun IsWritten
-  saves_whole IsWritten full image =
+  saves_whole IsWritten full few image =
       saves IsWholeRun IsWritten (subst (EndsAt head has.of_input.run) full has.of_input.ends)
-      (of_run head served.printed.head.shape has.of_input.run served.parts.items left IsWritten sizes_are has.of_input.leaves
+      (of_run head served.printed.head.shape has.of_input.run served.parts.items left IsWritten has.of_input.leaves few
       (subst (λ (other : Head). OfImageLeft other served.printed.head.shape served.parts.items left IsWritten) has.of_input.head_is
       image))
 
   -- how the drive of a whole run was written
   module _ (status : Status) (back : List DieState) (old new : Option (List ℕ)) (full : served.printed.full ≡ None)
+      (few : HaveChannelsFewPages served.printed.head.shape left)
       (written : IsLeftWritten status (head_of served.printed.head) served.printed.head.shape served.parts.items left old new)
       (left_dies : AreLeft (served.printed.head.shape.channels * served.printed.head.shape.dies) status left back) where
     abbrev count : ℕ
@@ -190,19 +192,19 @@ module _ (settings : Settings) (before after : Option (List ℕ)) (dies : List D
     saved_done is =
         let same : back ≡ left = subst (λ (other : Status). AreLeft count other left back) is left_dies in
         subst (λ (all : List DieState). SavesRun settings before after dies views all IsWholeRun (Appends old new)) (sym same)
-        (saves_whole (Appends old new) full (subst Written is written))
+        (saves_whole (Appends old new) full few (subst Written is written))
 
     pub saved_front : status ≡ WriteFault → SavesRun settings before after dies views back IsWholeRun (AppendsFront old new)
     saved_front is =
         let same : back ≡ left = subst (λ (other : Status). AreLeft count other left back) is left_dies in
         subst (λ (all : List DieState). SavesRun settings before after dies views all IsWholeRun (AppendsFront old new)) (sym same)
-        (saves_whole (AppendsFront old new) full (subst Written is written))
+        (saves_whole (AppendsFront old new) full few (subst Written is written))
 
     -- a die failed as it was saved
     pub saved_failed : (die : ℕ) → status ≡ DieFailed die → FailsSaving settings before after dies views back die (AppendsFront old new)
     saved_failed die is = record {
       left = left;
-      saves = saves_whole (AppendsFront old new) full (subst Written is written);
+      saves = saves_whole (AppendsFront old new) full few (subst Written is written);
       fails =
           subst (λ (sizes : Sizes). FailsBelow (sizes.channels * sizes.dies) die left back) sizes_are
           (subst (λ (other : Status). AreLeft count other left back) is left_dies);

@@ -3,6 +3,7 @@
 use Rattle.std.specs.Prelude.{ℕ, ◌≡◌, ◌*◌, Bool, true, false, List, Option, Some, IfSome, Ok, ⊤}
 use Rattle.std.specs.Io.KnownBytes.{Appends}
 use Rattle.std.specs.Option.{option_map_or}
+use Rattle.channel_ends.specs.SavedImage.{saved_image}
 use Rattle.complete_runs.specs.CompleteRuns.{IsComplete}
 use Rattle.onfi_cmd.specs.DieState.{DieState}
 use Rattle.run_laws.specs.Headline.{Headline, IsWholeRun}
@@ -20,7 +21,6 @@ use Rattle.ssd_top.specs.Handed.{IsRunOf}
 use Rattle.ssd_top.specs.HandedBack.{AllCountNone, AreHandedBack, CountsRunAndFailure}
 use Rattle.ssd_top.specs.LeftDrives.{FailsBelow}
 use Rattle.ssd_top.specs.Printed.{shown_text}
-use Rattle.ssd_top.specs.Saving.{saved_image}
 use Rattle.ssd_top.specs.Serving.{WasRead}
 use Rattle.ssd_top.specs.declared.status.Status.{Status}
 use Rattle.ssd_top.specs.declared.status.Status.TheVariants.{Done, Image, ReadFault, WriteFault, OutOfMemory, DieFailed}
@@ -92,7 +92,7 @@ pub record SavesRun (settings : Settings) (before after : Option (List ℕ)) (di
   pub headline : Headline asked.head run
   pub complete : IsComplete asked.head run
   pub ended : Ended asked.head run
-  pub is_written : IsWritten (saved_image asked.head run left)
+  pub is_written : IsWritten (saved_image asked.head run)
 
 -- a source had an image with this head, and nothing was read behind it
 pub record IsImageOf (before after : Option (List ℕ)) (head : Head) : Type 0 where

@@ -1,20 +1,24 @@
--- What has a run left of a drive, so that it can be saved? The changed parts of its channels' bases, as the pasts say, which fit
--- the sizes of the drive, and dies that tell their pages.
+-- What has a run left of a drive, so that it can be saved? Each channel stood for its start and came to its past; it gave back
+-- the changed parts of its base, which fit the sizes of the drive, and its dies, which are mounted.
 use Rattle.std.specs.Prelude.{ℕ, ◌≡◌, ◌<◌, true, List, length, map, slice_get, Option, Some, ⊤}
 use Rattle.std.specs.Io.KnownBytes.{Appends}
+use Rattle.chan_dies.specs.DiesState.{AreMounted}
+use Rattle.chan_state.specs.ChannelState.{ChannelState, EndsWhole, StandsFor, parts_of}
 use Rattle.chan_state.specs.declared.parts.BaseParts.{BaseParts}
+use Rattle.channel_ends.specs.ChannelEnds.{HaveFewPages}
 use Rattle.contents_file.specs.DiesCopied.{FailsAt}
-use Rattle.drive_image.specs.WholeImage.{ChannelsTellPages, saved_channels_of}
+use Rattle.drive_image.specs.WholeImage.{saved_channels_of}
+use Rattle.final_dies.specs.FinalDies.{dies_of_channel}
 use Rattle.onfi_cmd.specs.DieState.{DieState}
 use Rattle.run_laws.specs.Runs.{Run, channels_of, data_in}
 use Rattle.ssd_formats.specs.ImageContents.{image_bytes}
 use Rattle.ssd_formats.specs.ImageHead.{Head, with_next_session}
-use Rattle.ssd_geo.specs.Shape.{sizes_of}
 use Rattle.ssd_geo.specs.declared.base.ChannelBase.{ChannelBase}
+use Rattle.ssd_geo.specs.declared.policy_view.PolicyView.{PolicyView}
 use Rattle.ssd_geo.specs.declared.shape.Shape.{Shape}
+use Rattle.ssd_geo.specs.declared.tag.Tag.{Tag}
 use Rattle.ssd_histories.specs.CallsInOrder.{ChannelRun}
 use Rattle.ssd_io.specs.Pieces.{AppendsFront}
-use Rattle.ssd_top.specs.Saving.{parts_left}
 use Rattle.ssd_top.specs.declared.status.Status.{Status}
 use Rattle.ssd_top.specs.declared.status.Status.TheVariants.{Done, WriteFault, OutOfMemory, DieFailed}
 
@@ -23,18 +27,41 @@ pub record PartsFit (shape : Shape) (parts : BaseParts) : Type 0 where
   pub block_count : length parts.blocks ≡ shape.superblocks
   pub row_count : length parts.rows ≡ shape.rows
 
--- parts are those of all channels of a drive, and the dies of each channel tell their pages
+-- the dies of each channel, among those of a drive, are mounted as its own
+abbrev pub AreChannelsMounted : Shape → List DieState → Type 0
+AreChannelsMounted shape dies =
+    (channel : ℕ) → channel < shape.channels → AreMounted shape (dies_of_channel shape.dies dies channel)
+
+-- and none of them has more programmed pages in a block than there are
+abbrev pub HaveChannelsFewPages : Shape → List DieState → Type 0
+HaveChannelsFewPages shape dies =
+    (channel : ℕ) → channel < shape.channels → HaveFewPages shape (dies_of_channel shape.dies dies channel)
+
+-- parts are those of all channels of a drive, and the dies of each channel are mounted
 pub record CanBeSaved (shape : Shape) (parts : List BaseParts) (dies : List DieState) : Type 0 where
   pub as_many : length parts ≡ shape.channels
   pub fit : (channel : ℕ) (own : BaseParts) → slice_get parts channel ≡ Some own → PartsFit shape own
-  pub tell : ChannelsTellPages shape dies
+  pub mounted : AreChannelsMounted shape dies
 
--- a run left these parts, and these dies
+-- a channel of a drive of a shape stood for the start of a run, came to its past, and ended whole with these dies
+pub record IsAtEnd (contents : List (Tag × List ℕ)) (run : ChannelRun) (shape : Shape) (dies : List DieState)
+    (channel : ChannelState) : Type 0 where
+  pub view : Option PolicyView
+  pub past_is : channel.past ≡ run.past
+  pub stands : StandsFor channel view run.start contents
+  pub whole : EndsWhole channel
+  pub shape_is : run.start.base.shape ≡ shape
+  pub dies_are : channel.dies ≡ dies
+
+-- a run left these parts of its channels' bases, and these dies
 pub record LeavesDrive (head : Head) (shape : Shape) (run : Run) (parts : List BaseParts) (dies : List DieState) : Type 0 where
-  pub parts_are : parts ≡ map (parts_left (data_in head run)) (channels_of run)
-  pub sizes_are :
-      (channel : ℕ) (own : ChannelRun) → slice_get (channels_of run) channel ≡ Some own
-      → sizes_of own.start.base.shape ≡ sizes_of shape
+  pub channels : List ChannelState
+  pub as_many : length (channels_of run) ≡ length channels
+  pub parts_are : parts ≡ map parts_of channels
+  pub at_end :
+      (n : ℕ) (own : ChannelRun) (channel : ChannelState) → slice_get (channels_of run) n ≡ Some own
+      → slice_get channels n ≡ Some channel
+      → IsAtEnd (data_in head run) own shape (dies_of_channel shape.dies dies n) channel
   pub can_be_saved : CanBeSaved shape parts dies
 
 -- a base has the sizes of a drive, the number of a channel, and these parts

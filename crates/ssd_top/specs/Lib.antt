@@ -6,7 +6,6 @@ pub mod LeftDrives
 pub mod Loading
 pub mod Printed
 pub mod Running
-pub mod Saving
 pub mod Serving
 pub mod Statuses
 pub mod Workers

@@ -1,14 +1,17 @@
 // The drive that a run leaves, saved.
-ghost use Rattle.std.specs.Prelude.{ℕ, ◌≡◌, ◌≢◌, ◌*◌, ◌⊎◌, IfOk, length, map, vec_len, ⊤};
+ghost use Rattle.std.specs.Prelude.{ℕ, ◌≡◌, ◌≢◌, ◌*◌, ◌<◌, ◌⊎◌, IfOk, length, map, vec_len, ⊤};
 ghost use Rattle.std.specs.Io.KnownBytes.{Appends};
+ghost use Rattle.chan_dies.specs.DiesState.{AreMounted};
+ghost use Rattle.channel_ends.specs.ChannelEnds.{HaveFewPages};
 ghost use Rattle.command_words.specs.Commands.{AreWithin, told_settings};
+ghost use Rattle.final_dies.specs.FinalDies.{dies_of_channel};
 ghost use Rattle.run_laws.specs.Headline.{IsStoppedRun, IsWholeRun};
 ghost use Rattle.ssd_formats.specs.ImageHead.{IsHead, head_of};
 ghost use Rattle.ssd_geo.specs.Faults.{NeverFell, Rose};
 ghost use Rattle.ssd_io.specs.Pieces.{AppendsFront};
 ghost use Rattle.ssd_top.specs.Commands.{AreSavedBack, FailsSaving, IsUnsaved, SavesRun};
 ghost use Rattle.ssd_top.specs.HandedBack.{AreHandedIn, most_channels};
-ghost use Rattle.ssd_top.specs.LeftDrives.{AreLeft, CanBeSaved, HaveParts, IsLeftWritten};
+ghost use Rattle.ssd_top.specs.LeftDrives.{AreChannelsMounted, AreLeft, CanBeSaved, HaveChannelsFewPages, HaveParts, IsLeftWritten};
 ghost use Rattle.ssd_top.specs.Serving.{IsCausedByTold};
 
 use crate::Status;
@@ -19,11 +22,12 @@ use crate::serve::{Answer, serve_input};
 use crate::served::Served;
 use chan_state::BaseParts;
 use channel_base::base_of;
+use channel_ends::count_pages;
 use command_words::Settings;
 use contents_file::{PageWork, WriteStop};
 use drive_image::write_drive;
 use onfi_cmd::Die;
-use ssd_geo::{ChannelBase, ImageHead, Memory};
+use ssd_geo::{ChannelBase, ImageHead, Memory, Shape};
 use ssd_io::{Sink, Source};
 use std::alloc::Global;
 use victim::Policy;
@@ -48,6 +52,27 @@ fn bases_left(
         };
     }
     Ok(bases)
+}
+
+// Asks the dies of a channel for the numbers of their pages.
+fn count_channel<D: Die>(shape: &Shape, dies: &[D], channel: u8)
+    requires channel { channel < shape.now.channels }
+    requires mounted { AreMounted shape.now (dies_of_channel shape.now.dies (map D.state dies.now) channel) }
+    ensures { HaveFewPages shape.now (dies_of_channel shape.now.dies (map D.state dies.now) channel) }
+{
+    let count = shape.dies as usize;
+    let first = channel as usize * count;
+    count_pages(shape, &dies[first..first + count])
+}
+
+// Asks those of all channels. None tells more pages than a block has, so what is saved is what the histories say.
+fn count_drive<D: Die>(shape: &Shape, dies: &[D])
+    requires { AreChannelsMounted shape.now (map D.state dies.now) }
+    ensures { HaveChannelsFewPages shape.now (map D.state dies.now) }
+{
+    for channel in 0..shape.channels {
+        count_channel(shape, dies, channel);
+    }
 }
 
 // Writes the image of a drive with the head that was read, these parts of its channels' bases and these dies: with contents, and
@@ -140,6 +165,7 @@ pub fn save<S: Source, O: Sink, D: Die>(
         None => {}
     }
     let mut dies = dies;
+    count_drive(&head.shape, &dies);
     let status = save_left(alloc, output, head, parts, &mut dies);
     Ended { status, dies }
 }

@@ -3,7 +3,7 @@ use Rattle.ssd_formats.specs.ImageHead.{head_of}
 use Rattle.ssd_top.proofs.EndedChannels.{written_whole}
 use Rattle.ssd_top.proofs.SavedRuns.{left_hands_saved, saved_done, saved_failed, saved_front, saves_stopped, stop_hands_saved}
 use Rattle.ssd_top.specs.Commands.{AreSavedBack}
-use Rattle.ssd_top.specs.LeftDrives.{AreLeft, IsLeftWritten}
+use Rattle.ssd_top.specs.LeftDrives.{AreLeft, HaveChannelsFewPages, IsLeftWritten}
 use Rattle.ssd_top.proofs.saving.save.Goals as goal
 
 pub returns-in-Err-clause-dies : goal.returns-in-Err-clause-dies
@@ -53,10 +53,12 @@ returns-clause-saved g c = λ is.
     let left =
     subst (λ all. AreLeft (head.shape.channels * head.shape.dies) c.save_left-status.result (map g.D.Die.state all)
     (map g.D.Die.state c.save_left-status.new.dies)) c.deref_mut.ensures.value c.save_left-status.ensures.dies in
+    let few =
+    subst (λ all. HaveChannelsFewPages head.shape (map g.D.Die.state all)) c.deref.ensures.value c.count_drive.ensures in
     let back =
     subst (λ all. AreLeft (head.shape.channels * head.shape.dies) c.save_left-status.result (map g.D.Die.state items)
     (map g.D.Die.state all)) whole left in
-    saved_done _ _ _ _ _ (map g.D.Die.state items) c.in-Ok.served has c.save_left-status.result _ old new c.in-None.is written back is
+    saved_done _ _ _ _ _ (map g.D.Die.state items) c.in-Ok.served has c.save_left-status.result _ old new c.in-None.is few written back is
 
 pub returns-clause-saved_front : goal.returns-clause-saved_front
 returns-clause-saved_front g c = λ is.
@@ -73,10 +75,12 @@ returns-clause-saved_front g c = λ is.
     let left =
     subst (λ all. AreLeft (head.shape.channels * head.shape.dies) c.save_left-status.result (map g.D.Die.state all)
     (map g.D.Die.state c.save_left-status.new.dies)) c.deref_mut.ensures.value c.save_left-status.ensures.dies in
+    let few =
+    subst (λ all. HaveChannelsFewPages head.shape (map g.D.Die.state all)) c.deref.ensures.value c.count_drive.ensures in
     let back =
     subst (λ all. AreLeft (head.shape.channels * head.shape.dies) c.save_left-status.result (map g.D.Die.state items)
     (map g.D.Die.state all)) whole left in
-    saved_front _ _ _ _ _ (map g.D.Die.state items) c.in-Ok.served has c.save_left-status.result _ old new c.in-None.is written back is
+    saved_front _ _ _ _ _ (map g.D.Die.state items) c.in-Ok.served has c.save_left-status.result _ old new c.in-None.is few written back is
 
 pub returns-clause-failed : goal.returns-clause-failed
 returns-clause-failed g c = λ die is.
@@ -93,11 +97,13 @@ returns-clause-failed g c = λ die is.
     let left =
     subst (λ all. AreLeft (head.shape.channels * head.shape.dies) c.save_left-status.result (map g.D.Die.state all)
     (map g.D.Die.state c.save_left-status.new.dies)) c.deref_mut.ensures.value c.save_left-status.ensures.dies in
+    let few =
+    subst (λ all. HaveChannelsFewPages head.shape (map g.D.Die.state all)) c.deref.ensures.value c.count_drive.ensures in
     let back =
     subst (λ all. AreLeft (head.shape.channels * head.shape.dies) c.save_left-status.result (map g.D.Die.state items)
     (map g.D.Die.state all)) whole left in
     inr
-    (saved_failed _ _ _ _ _ (map g.D.Die.state items) c.in-Ok.served has c.save_left-status.result _ old new c.in-None.is
+    (saved_failed _ _ _ _ _ (map g.D.Die.state items) c.in-Ok.served has c.save_left-status.result _ old new c.in-None.is few
     written back die is)
 
 pub returns-in-Some-clause-at_limit : goal.returns-in-Some-clause-at_limit

@@ -1,0 +1,5 @@
+mod BegunDrains
+mod EndedRaces
+mod MadeHints
+mod MadeRaces
+mod SeenPasts

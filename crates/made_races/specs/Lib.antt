@@ -1,0 +1,5 @@
+pub mod BegunDrains
+pub mod EndedRaces
+pub mod MadeHints
+pub mod MadeRaces
+pub mod SeenPasts

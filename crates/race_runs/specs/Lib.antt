@@ -1,0 +1,4 @@
+pub mod RaceEnds
+pub mod RaceHeadline
+pub mod RaceHints
+pub mod RaceRoom

@@ -1,0 +1,2 @@
+mod RoundStops
+mod StoppedCalls
