@@ -167,6 +167,7 @@ of_handed input settings olds mounted views back served counts others is = recor
   is_head = is.is_head;
   head_is = is.head_is;
   leaves = is.leaves;
+  is_read_once_ended = is.is_read_once_ended;
 }
 
 module _ (input : Input) (settings : Settings) (olds mounted : List DieState) (views : List (Option PolicyView))

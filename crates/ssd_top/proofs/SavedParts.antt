@@ -9,12 +9,13 @@ use Rattle.chan_state.specs.ChannelState.{ChannelState, parts_of}
 use Rattle.channel_ends.proofs.HeldImages.{ended_runs_hold_their_images}
 use Rattle.channel_ends.specs.ChannelEnds.{HaveFewPages, base_at_end, image_at_end}
 use Rattle.channel_ends.specs.EndedRuns.{EndRuns, images_at_end}
-use Rattle.channel_ends.specs.SavedImage.{images_of_run, saved_image}
+use Rattle.channel_ends.specs.SavedImage.{IsReadAgain, images_of_run, saved_image}
 use Rattle.drive_image.proofs.MountedDies.{mounted_tell}
 use Rattle.drive_image.specs.WholeImage.{AreBasesOf, ChannelsTellPages, saved_channels_of, saved_of}
 use Rattle.final_dies.specs.FinalDies.{dies_of_channel}
 use Rattle.onfi_cmd.specs.DieState.{DieState}
 use Rattle.run_laws.specs.Runs.{Run, channels_of, data_in}
+use Rattle.savable_contents.specs.SavableContents.{IsReadOnceEnded}
 use Rattle.ssd_formats.specs.ImageContents.{ChannelImage, image_bytes, saved_channel}
 use Rattle.ssd_formats.specs.ImageHead.{Head, with_next_session}
 use Rattle.ssd_geo.specs.declared.base.BlockBase.{BlockBase}
@@ -161,6 +162,34 @@ same_channel : (base other : ChannelBase) (dies others : List DieState) → base
     → saved_channel base (map blocks_in dies) ≡ saved_channel other (map blocks_in others)
 same_channel base other dies others shape blocks rows sum same = rw (shape, blocks, rows, sum, same) refl
 
+-- the channels of a run that left a drive are those of the drive, and have ended where their dies tell no more pages than a block has
+pub as_many_left : (head : Head) (shape : Shape) (run : Run) (parts : List BaseParts) (dies : List DieState)
+    → LeavesDrive head shape run parts dies → length (channels_of run) ≡ shape.channels
+as_many_left head shape run parts dies leaves =
+    leaves.as_many ∙ sym (length-map leaves.channels parts_of)
+    ∙ ap (λ (all : List BaseParts). length all) (sym leaves.parts_are) ∙ leaves.can_be_saved.as_many
+
+left_have_ended : (head : Head) (shape : Shape) (run : Run) (parts : List BaseParts) (dies : List DieState)
+    (leaves : LeavesDrive head shape run parts dies) → HaveChannelsFewPages shape dies
+    → EndRuns (data_in head run) (channels_of run) leaves.channels
+left_have_ended head shape run parts dies leaves few =
+    let contents : List (Tag × List ℕ) = data_in head run in
+    let none : (n : ℕ) → 0 + n ≡ n = λ n. omega arith in
+    let of_number : ℕ → List DieState = λ n. dies_of_channel shape.dies dies n in
+    let count : length leaves.channels ≡ shape.channels =
+    sym leaves.as_many ∙ as_many_left head shape run parts dies leaves in
+    end_runs contents shape of_number 0 (channels_of run) leaves.channels leaves.as_many
+    (λ n own channel has_own has_channel.
+    subst (λ (k : ℕ). IsAtEnd contents own shape (of_number k) channel) (sym (none n))
+    (leaves.at_end n own channel has_own has_channel))
+    (λ n below. subst (λ (k : ℕ). HaveFewPages shape (of_number k)) (sym (none n)) (few n (omega (arith, below, count))))
+
+-- so the image of its drive is read again
+pub read_again_as_left : (head : Head) (shape : Shape) (run : Run) (parts : List BaseParts) (dies : List DieState)
+    → LeavesDrive head shape run parts dies → HaveChannelsFewPages shape dies → IsReadOnceEnded head run → IsReadAgain head run
+read_again_as_left head shape run parts dies leaves few is_read =
+    is_read leaves.channels (left_have_ended head shape run parts dies leaves few)
+
 -- bases with the parts that a run left are saved as the run says
 saved_as_left : (head : Head) (shape : Shape) (run : Run) (parts : List BaseParts) (bases : List ChannelBase) (dies : List DieState)
     → LeavesDrive head shape run parts dies → HaveParts shape parts bases → HaveChannelsFewPages shape dies
@@ -171,7 +200,6 @@ saved_as_left head shape run parts bases dies leaves have few =
     ap (λ (all : List BaseParts). length all) leaves.parts_are ∙ length-map leaves.channels parts_of in
     let none : (n : ℕ) → 0 + n ≡ n = λ n. omega arith in
     let of_number : ℕ → List DieState = λ n. dies_of_channel shape.dies dies n in
-    let count : length leaves.channels ≡ shape.channels = sym as_many_parts ∙ leaves.can_be_saved.as_many in
     saved_at_end (saved_of shape dies) 0 bases (channels_of run) leaves.channels
     (have.as_many ∙ as_many_parts ∙ sym leaves.as_many) leaves.as_many
     (λ n base own channel has_base has_own has_channel.
@@ -182,12 +210,7 @@ saved_as_left head shape run parts bases dies leaves have few =
     subst (λ (k : ℕ). saved_of shape dies (k, base) ≡ image_at_end own.start.base channel) (sym (none n))
     (same_channel base (base_at_end own.start.base channel) (of_number n) channel.dies
     (has.shape_is ∙ sym is.shape_is) has.blocks_are has.rows_are has.sum_is (sym is.dies_are)))
-    ∙ ended_runs_hold_their_images head run leaves.channels
-    (end_runs contents shape of_number 0 (channels_of run) leaves.channels leaves.as_many
-    (λ n own channel has_own has_channel.
-    subst (λ (k : ℕ). IsAtEnd contents own shape (of_number k) channel) (sym (none n))
-    (leaves.at_end n own channel has_own has_channel))
-    (λ n below. subst (λ (k : ℕ). HaveFewPages shape (of_number k)) (sym (none n)) (few n (omega (arith, below, count)))))
+    ∙ ended_runs_hold_their_images head run leaves.channels (left_have_ended head shape run parts dies leaves few)
   where
     mapped_at : {X Y : Type 0} (f : X → Y) (xs : List X) (n : ℕ) (x : X) → slice_get xs n ≡ Some x
         → slice_get (map f xs) n ≡ Some (f x)

@@ -7,7 +7,6 @@ use Rattle.std.proofs.lemmas.Bool.{cases_eq}
 use Rattle.std.proofs.lemmas.Option.{get_or_from_slice_get, slice_get-get_or, slice_get_within}
 use Rattle.chan_dies.specs.DiesState.{die_at, no_die}
 use Rattle.chan_state.specs.declared.parts.BaseParts.{BaseParts}
-use Rattle.channel_ends.specs.SavedImage.{saved_image}
 use Rattle.contents_file.specs.DiesCopied.{FailsAt, FaultsLoad}
 use Rattle.drive_dies.specs.Mounting.{CountsLoad}
 use Rattle.onfi_cmd.specs.DieState.{DieState}
@@ -21,9 +20,9 @@ use Rattle.ssd_geo.specs.Shape.{sizes_of}
 use Rattle.ssd_geo.specs.declared.policy_view.PolicyView.{PolicyView}
 use Rattle.ssd_geo.specs.declared.shape.Shape.{Shape}
 use Rattle.ssd_io.specs.Pieces.{AppendsFront}
-use Rattle.ssd_top.proofs.SavedParts.{of_run}
+use Rattle.ssd_top.proofs.SavedParts.{of_run, read_again_as_left}
 use Rattle.ssd_top.proofs.ServedChannels.{stays_at}
-use Rattle.ssd_top.specs.Commands.{AreSavedBack, FailsSaving, SavesRun}
+use Rattle.ssd_top.specs.Commands.{AreSavedBack, FailsSaving, SavesRun, WritesImage}
 use Rattle.ssd_top.specs.HandedBack.{AllCountRuns, AreHandedBack, CountsRun, CountsRunOrLoad}
 use Rattle.ssd_top.specs.LeftDrives.{AreLeft, FailsBelow, HaveChannelsFewPages, IsLeftWritten, OfImageLeft}
 use Rattle.ssd_top.specs.Serving.{EndsAt, HasServed, IsStop}
@@ -137,9 +136,9 @@ module _ (settings : Settings) (before after : Option (List ℕ)) (dies : List D
   abbrev head : Head
   head = has.asked.head
 
-  abbrev saves : (Ended : Head → Run → Type 0) (IsWritten : List ℕ → Type 0) → Ended head has.of_input.run
-      → IsWritten (saved_image head has.of_input.run) → SavesRun settings before after dies views left Ended IsWritten
-  saves Ended IsWritten ended written = record {
+  abbrev saves : (Ended Became : Head → Run → Type 0) → Ended head has.of_input.run → Became head has.of_input.run
+      → SavesRun settings before after dies views left Ended Became
+  saves Ended Became ended became = record {
     asked = has.asked;
     run = has.of_input.run;
     was_read = has.was_read;
@@ -147,7 +146,7 @@ module _ (settings : Settings) (before after : Option (List ℕ)) (dies : List D
     headline = has.of_input.headline;
     complete = has.of_input.complete;
     ended = ended;
-    is_written = written;
+    became = became;
   }
 
   abbrev sizes_are : sizes_of served.printed.head.shape ≡ head.sizes
@@ -156,11 +155,11 @@ module _ (settings : Settings) (before after : Option (List ℕ)) (dies : List D
   -- one that stopped at the limit of a history, of which nothing was written
   pub saves_stopped : (stop : ℕ × ℕ) → served.printed.full ≡ Some stop → (channel entries : ℕ)
       → HistoryLimit stop.0 stop.1 ≡ HistoryLimit channel entries
-      → SavesRun settings before after dies views left (λ head run. IsStoppedRun head run channel entries) (λ image. ⊤)
+      → SavesRun settings before after dies views left (λ head run. IsStoppedRun head run channel entries) (λ head run. ⊤)
   saves_stopped stop full channel entries is =
       let same_channel : stop.0 ≡ channel = cc in
       let same_entries : stop.1 ≡ entries = cc in
-      saves (λ head run. IsStoppedRun head run channel entries) (λ image. ⊤)
+      saves (λ head run. IsStoppedRun head run channel entries) (λ head run. ⊤)
       (subst (λ (at : ℕ). IsStoppedRun head has.of_input.run at entries) same_channel
       (subst (λ (length : ℕ). IsStoppedRun head has.of_input.run stop.0 length) same_entries
       (subst (EndsAt head has.of_input.run) full has.of_input.ends)))
@@ -170,12 +169,18 @@ module _ (settings : Settings) (before after : Option (List ℕ)) (dies : List D
   abbrev pub saves_whole : (IsWritten : List ℕ → Type 0) → served.printed.full ≡ None
       → HaveChannelsFewPages served.printed.head.shape left
       → OfImageLeft (head_of served.printed.head) served.printed.head.shape served.parts.items left IsWritten
-      → SavesRun settings before after dies views left IsWholeRun IsWritten
+      → SavesRun settings before after dies views left IsWholeRun (WritesImage IsWritten)
   saves_whole IsWritten full few image =
-      saves IsWholeRun IsWritten (subst (EndsAt head has.of_input.run) full has.of_input.ends)
-      (of_run head served.printed.head.shape has.of_input.run served.parts.items left IsWritten has.of_input.leaves few
-      (subst (λ (other : Head). OfImageLeft other served.printed.head.shape served.parts.items left IsWritten) has.of_input.head_is
-      image))
+      saves IsWholeRun (WritesImage IsWritten) (subst (EndsAt head has.of_input.run) full has.of_input.ends)
+      (record {
+        is_written =
+            of_run head served.printed.head.shape has.of_input.run served.parts.items left IsWritten has.of_input.leaves few
+            (subst (λ (other : Head). OfImageLeft other served.printed.head.shape served.parts.items left IsWritten)
+            has.of_input.head_is image);
+        is_read_again =
+            read_again_as_left head served.printed.head.shape has.of_input.run served.parts.items left has.of_input.leaves few
+            has.of_input.is_read_once_ended;
+      })
 
   -- how the drive of a whole run was written
   module _ (status : Status) (back : List DieState) (old new : Option (List ℕ)) (full : served.printed.full ≡ None)
@@ -188,16 +193,16 @@ module _ (settings : Settings) (before after : Option (List ℕ)) (dies : List D
     abbrev Written : Status → Type 0
     Written other = IsLeftWritten other (head_of served.printed.head) served.printed.head.shape served.parts.items left old new
 
-    pub saved_done : status ≡ Done → SavesRun settings before after dies views back IsWholeRun (Appends old new)
+    pub saved_done : status ≡ Done → SavesRun settings before after dies views back IsWholeRun (WritesImage (Appends old new))
     saved_done is =
         let same : back ≡ left = subst (λ (other : Status). AreLeft count other left back) is left_dies in
-        subst (λ (all : List DieState). SavesRun settings before after dies views all IsWholeRun (Appends old new)) (sym same)
+        subst (λ (all : List DieState). SavesRun settings before after dies views all IsWholeRun (WritesImage (Appends old new))) (sym same)
         (saves_whole (Appends old new) full few (subst Written is written))
 
-    pub saved_front : status ≡ WriteFault → SavesRun settings before after dies views back IsWholeRun (AppendsFront old new)
+    pub saved_front : status ≡ WriteFault → SavesRun settings before after dies views back IsWholeRun (WritesImage (AppendsFront old new))
     saved_front is =
         let same : back ≡ left = subst (λ (other : Status). AreLeft count other left back) is left_dies in
-        subst (λ (all : List DieState). SavesRun settings before after dies views all IsWholeRun (AppendsFront old new)) (sym same)
+        subst (λ (all : List DieState). SavesRun settings before after dies views all IsWholeRun (WritesImage (AppendsFront old new))) (sym same)
         (saves_whole (AppendsFront old new) full few (subst Written is written))
 
     -- a die failed as it was saved

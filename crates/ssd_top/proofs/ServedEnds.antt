@@ -17,7 +17,7 @@ use Rattle.ssd_geo.specs.declared.policy_view.PolicyView.{PolicyView}
 use Rattle.ssd_geo.specs.declared.trace.Trace.{Trace}
 use Rattle.ssd_histories.specs.History.{history_of}
 use Rattle.ssd_top.proofs.EndedChannels.{count_of_led, gave_back, histories_of}
-use Rattle.ssd_top.proofs.ServedRuns.{IsSavedAs, served_dies_count, served_is_of_input}
+use Rattle.ssd_top.proofs.ServedRuns.{AreSavedBelow, IsSavedAs, served_dies_count, served_is_of_input}
 use Rattle.ssd_top.specs.Forms.{input_of}
 use Rattle.ssd_top.specs.Running.{IsRunning, Job}
 use Rattle.ssd_top.specs.Serving.{IsMadeOf, IsServed, LeadsTo, RunsToEnd, ServesInput, job_of}
@@ -29,7 +29,8 @@ use Rattle.ssd_top.specs.declared.serving.Answered.{Answered}
 module _ {A X : Type 0} (old written items : List A) (dies left back : List X) (kept : A → ChannelState)
     (view : A → Option PolicyView)
     (state : X → DieState) (head : ImageHead) (is_head : IsHead (head_of head))
-    (saved : ℕ → ChannelImage) (saved_as : IsSavedAs (head_of head) saved) (settings : Settings) (trace : Trace)
+    (saved : ℕ → ChannelImage) (saved_as : IsSavedAs (head_of head) saved)
+    (are_saved : AreSavedBelow (head_of head) saved) (settings : Settings) (trace : Trace)
     (views : List (Option PolicyView))
     (enough : die_count head ≤ length (map state dies)) (worker : WorkerState) (same : written ≡ items)
     (running : IsRunning (job_of (input_of (head_of head) saved trace) settings.history (map state dies) views) worker
@@ -74,7 +75,7 @@ module _ {A X : Type 0} (old written items : List A) (dies left back : List X) (
             all left_are
             back_are;
       } in (
-        served_is_of_input head saved saved_as settings trace (map state dies) views (map state back) histories answered served is_head is_served made,
+        served_is_of_input head saved saved_as are_saved settings trace (map state dies) views (map state back) histories answered served is_head is_served made,
         served_dies_count head saved settings.history trace (map state dies) views (map state back) histories served.parts.items
             answered enough is_served,
       )

@@ -1,9 +1,10 @@
 -- When calls of an input were served, all or those before a stop, what was made to be printed is of a run of the input over the dies and policies that were handed in.
-use Rattle.std.proofs.Common.{ℕ, zero, suc, Bool, ◌≡◌, ◌+◌, ◌-◌, ◌*◌, ◌^◌, ◌<◌, ◌≤◌, List, [], ◌∷◌, ◌++◌, Option, Some, None, false, filter, length, map, refl, sym, ap, subst, ◌∙◌, arith}
+use Rattle.std.proofs.Common.{ℕ, zero, suc, Bool, ◌≡◌, ◌+◌, ◌-◌, ◌*◌, ◌^◌, ◌<◌, ◌≤◌, List, [], ◌∷◌, ◌++◌, Option, Some, None, false, filter, get_or, length, map, refl, sym, ap, subst, ◌∙◌, arith}
 use Rattle.std.proofs.lemmas.List.FromFn.{get_or-map-range_with_len, length-map-range_with_len}
 use Rattle.std.proofs.lemmas.List.{append-nil, length-map}
 use Rattle.std.proofs.lemmas.List.Sums.{length-filter}
 use Rattle.std.proofs.lemmas.List.Elements.{All-cons, All-nil, All-weaker}
+use Rattle.std.proofs.lemmas.Option.{get_or_from_slice_get, slice_get_within}
 use Rattle.std.specs.List.{range_with_len}
 use Rattle.std.specs.Prelude.{All, IsTrue, slice_get, slice_index_or}
 use Rattle.chan_calls.specs.Workers.{WorkerState}
@@ -26,6 +27,8 @@ use Rattle.run_laws.specs.SerialRuns.{ChannelsHold, HasCalls, IsHeadlineOfStop, 
 use Rattle.run_laws.specs.ServedRuns.{HasLedTo, IsServedFrom, contents_in, hints_in, run_of_input, taken_in}
 use Rattle.run_laws.specs.Serials.{HasSmallSerials}
 use Rattle.run_laws.specs.SpelledPasts.{IsSmallVerb}
+use Rattle.savable_contents.proofs.ReadAgain.{saved_runs_are_read_again}
+use Rattle.savable_contents.specs.SavableContents.{HaveSpelling}
 use Rattle.serial_laws.proofs.NumberedTags.{counts_grow, counts_in}
 use Rattle.ssd_histories.specs.CallsInOrder.{ChannelRun}
 use Rattle.ssd_histories.specs.History.{history_of}
@@ -33,7 +36,7 @@ use Rattle.ssd_histories.specs.HistoryRoom.{found_room}
 use Rattle.ssd_histories.specs.Standing.{IsPastOf}
 use Rattle.ssd_histories.specs.Start.{Start}
 use Rattle.ssd_formats.proofs.HeadLaws.{within_is}
-use Rattle.ssd_formats.specs.ImageContents.{ChannelImage, blank_channel}
+use Rattle.ssd_formats.specs.ImageContents.{ChannelImage, IsSaved, blank_channel}
 use Rattle.ssd_formats.specs.ImageHead.{Head, IsHead, head_of}
 use Rattle.ssd_formats.specs.Input.{Input}
 use Rattle.ssd_formats.specs.Numbers.{Text}
@@ -48,9 +51,10 @@ use Rattle.ssd_geo.specs.declared.shape.Shape.{Shape}
 use Rattle.ssd_geo.specs.declared.trace.Trace.{Trace}
 use Rattle.ssd_geo.specs.declared.trace.TraceCall.{TraceCall}
 use Rattle.ssd_top.proofs.LeftParts.{leaves}
+use Rattle.ssd_top.proofs.SavedParts.{as_many_left}
 use Rattle.ssd_top.proofs.ServedChannels.{StandInRun, are_counted, dies_count, hold_pasts, others_stay}
 use Rattle.ssd_top.proofs.ServedVerbs.{small_verb}
-use Rattle.ssd_top.specs.Forms.{input_of}
+use Rattle.ssd_top.specs.Forms.{input_of, saved_channels}
 use Rattle.ssd_top.specs.Handed.{IsRunOf}
 use Rattle.ssd_top.specs.HandedBack.{AllCountRuns}
 use Rattle.ssd_top.specs.Printed.{shown_text, text_of}
@@ -351,6 +355,19 @@ same_saved saved other (suc count) from each =
     same_saved saved other count (from + 1) (λ number low. each number (omega (arith, low))) in
     rw (each from (omega arith), later) refl
 
+-- what is told of each channel of a drive has a spelling
+abbrev pub AreSavedBelow : Head → (ℕ → ChannelImage) → Type 0
+AreSavedBelow head saved = (number : ℕ) → number < head.sizes.channels → IsSaved head number (saved number)
+
+have_spelling : (head : Head) (saved : ℕ → ChannelImage) → AreSavedBelow head saved → HaveSpelling head (saved_channels head saved)
+have_spelling head saved each channel contents at =
+    let low : channel < head.sizes.channels =
+    omega (arith, slice_get_within (saved_channels head saved) channel contents at, length-map-range_with_len saved 0 head.sizes.channels) in
+    let here : get_or (saved_channels head saved) channel (saved channel) ≡ saved channel =
+    get_or-map-range_with_len saved 0 head.sizes.channels channel channel (saved channel) low (omega arith) in
+    subst (λ (own : ChannelImage). IsSaved head channel own)
+    (sym here ∙ get_or_from_slice_get (saved_channels head saved) channel contents (saved channel) at) (each channel low)
+
 -- so a run on it began with a blank drive
 begins_blank : (head : Head) (saved : ℕ → ChannelImage) → IsSavedAs head saved → (asked : Trace) (limit : ℕ)
     (before after : FaultCounts) (views : List (Option PolicyView)) (run : Run) → IsHead head
@@ -368,13 +385,14 @@ begins_blank head saved saved_as asked limit before after views run is_head over
 }
 
 -- what was served of an input and is to be printed is of a run of it
-pub served_is_of_input : (head : ImageHead) (saved : ℕ → ChannelImage) → IsSavedAs (head_of head) saved → (settings : Settings)
+pub served_is_of_input : (head : ImageHead) (saved : ℕ → ChannelImage) → IsSavedAs (head_of head) saved
+    → AreSavedBelow (head_of head) saved → (settings : Settings)
     (asked : Trace) (dies : List DieState) (views : List (Option PolicyView)) (back : List DieState)
     (histories : List (List Entry)) (answered : Answered) (result : Served) → IsHead (head_of head)
     → IsServed (input_of (head_of head) saved asked) settings.history dies views back histories result.parts.items answered
     → IsMadeOf settings.whole head asked histories answered result.printed
     → IsOfInput (input_of (head_of head) saved asked) settings dies views back result
-served_is_of_input head saved saved_as settings asked dies views back histories answered result is_head served made =
+served_is_of_input head saved saved_as are_saved settings asked dies views back histories answered result is_head served made =
     let printed : Printed = result.printed in
     let replies : List (List Reply) = map (λ list. list.items) answered.replies.items in
     let of =
@@ -388,6 +406,10 @@ served_is_of_input head saved saved_as settings asked dies views back histories 
     made.histories_are ∙ served.histories_are ∙ through served.channels in
     let text : text_with settings.whole (input_of (head_of head) saved asked) served.channels replies answered.dropped ≡ text_of printed =
     rw (made.whole_is, levels, printed_histories, made.kinds_are, made.replies_are, made.dropped_is) refl in
+    let left : LeavesDrive (head_of head) head.shape of.run result.parts.items back =
+    subst (λ (parts : List BaseParts). LeavesDrive (head_of head) head.shape of.run parts back) (sym served.parts_are)
+    (leaves head saved asked settings.history dies views of.worker served.channels of.starts of.stand back served.give_back
+    served.whole of.run of.starts_are of.pasts_are of.data_are) in
     record {
       printable = record {
         few_levels = rw levels few_levels;
@@ -410,10 +432,12 @@ served_is_of_input head saved saved_as settings asked dies views back histories 
       head_is = ap head_of made.head_is;
       leaves =
           subst (λ (shape : Shape). LeavesDrive (head_of head) shape of.run result.parts.items back)
-          (sym (ap (λ (other : ImageHead). other.shape) made.head_is))
-          (subst (λ (parts : List BaseParts). LeavesDrive (head_of head) head.shape of.run parts back) (sym served.parts_are)
-          (leaves head saved asked settings.history dies views of.worker served.channels of.starts of.stand back served.give_back
-          served.whole of.run of.starts_are of.pasts_are of.data_are));
+          (sym (ap (λ (other : ImageHead). other.shape) made.head_is)) left;
+      is_read_once_ended =
+          saved_runs_are_read_again (head_of head) (saved_channels (head_of head) saved) settings.history
+          (handed_by_channel head.shape.channels head.shape.dies (counts_of dies) views) of.run is_head
+          (as_many_left (head_of head) head.shape of.run result.parts.items back left)
+          (have_spelling (head_of head) saved are_saved) of.is_run.is_over.begins of.calls_are of.headline.in_order;
     }
 
 -- each die counts as one that took part in a run

@@ -3,7 +3,7 @@
 use Rattle.std.specs.Prelude.{ℕ, ◌≡◌, ◌*◌, Bool, true, false, List, Option, Some, IfSome, Ok, ⊤}
 use Rattle.std.specs.Io.KnownBytes.{Appends}
 use Rattle.std.specs.Option.{option_map_or}
-use Rattle.channel_ends.specs.SavedImage.{saved_image}
+use Rattle.channel_ends.specs.SavedImage.{IsReadAgain, saved_image}
 use Rattle.complete_runs.specs.CompleteRuns.{IsComplete}
 use Rattle.onfi_cmd.specs.DieState.{DieState}
 use Rattle.run_laws.specs.Headline.{Headline, IsWholeRun}
@@ -80,11 +80,16 @@ pub record PrintsRun (settings : Settings) (before after : Option (List ℕ)) (d
   pub is_text : text ≡ shown_text settings.whole asked.head run
   pub is_printed : IsPrinted text
 
--- so it had, and there is a run of it, of which nothing was printed. It ended so and left these dies; and this became of the image
--- of the drive that it left
+-- of the image that the drive of a run is saved as this was written. Read again it is what it was made of, where no superblock
+-- was erased too often for an image
+pub record WritesImage (IsWritten : List ℕ → Type 0) (head : Head) (run : Run) : Type 0 where
+  pub is_written : IsWritten (saved_image head run)
+  pub is_read_again : IsReadAgain head run
+
+-- so it had, and there is a run of it, of which nothing was printed. It ended so and left these dies; and this became of the drive
+-- that it left
 pub record SavesRun (settings : Settings) (before after : Option (List ℕ)) (dies : List DieState)
-    (views : List (Option PolicyView)) (left : List DieState) (Ended : Head → Run → Type 0) (IsWritten : List ℕ → Type 0)
-    : Type 0 where
+    (views : List (Option PolicyView)) (left : List DieState) (Ended Became : Head → Run → Type 0) : Type 0 where
   pub asked : Input
   pub run : Run
   pub was_read : WasRead before after asked
@@ -92,7 +97,7 @@ pub record SavesRun (settings : Settings) (before after : Option (List ℕ)) (di
   pub headline : Headline asked.head run
   pub complete : IsComplete asked.head run
   pub ended : Ended asked.head run
-  pub is_written : IsWritten (saved_image asked.head run)
+  pub became : Became asked.head run
 
 -- a source had an image with this head, and nothing was read behind it
 pub record IsImageOf (before after : Option (List ℕ)) (head : Head) : Type 0 where
@@ -136,7 +141,7 @@ IsUnsaved other = ⊤
 pub record FailsSaving (settings : Settings) (before after : Option (List ℕ)) (dies : List DieState)
     (views : List (Option PolicyView)) (back : List DieState) (die : ℕ) (IsWritten : List ℕ → Type 0) : Type 0 where
   pub left : List DieState
-  pub saves : SavesRun settings before after dies views left IsWholeRun IsWritten
+  pub saves : SavesRun settings before after dies views left IsWholeRun (WritesImage IsWritten)
   pub fails : FailsBelow (saves.asked.head.sizes.channels * saves.asked.head.sizes.dies) die left back
 
 -- what became of the dies where a drive was to be saved: they took part in a run, and then one may have failed

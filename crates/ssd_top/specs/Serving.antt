@@ -32,6 +32,7 @@ use Rattle.ssd_geo.specs.declared.head.ImageHead.{ImageHead}
 use Rattle.ssd_geo.specs.declared.policy_view.PolicyView.{PolicyView}
 use Rattle.ssd_geo.specs.declared.reply.Reply.{Reply}
 use Rattle.ssd_geo.specs.declared.trace.Trace.{Trace as TraceOf}
+use Rattle.savable_contents.specs.SavableContents.{IsReadOnceEnded}
 use Rattle.ssd_top.specs.Handed.{IsRunOf}
 use Rattle.ssd_top.specs.HandedBack.{AllCountRuns, AreHandedBack}
 use Rattle.ssd_top.specs.LeftDrives.{LeavesDrive}
@@ -133,6 +134,7 @@ pub record IsOfInput (asked : Input) (settings : Settings) (dies : List DieState
   pub is_head : IsHead (head_of served.printed.head)
   pub head_is : head_of served.printed.head ≡ asked.head
   pub leaves : LeavesDrive asked.head served.printed.head.shape run served.parts.items back
+  pub is_read_once_ended : IsReadOnceEnded asked.head run
 
 -- an input was read to its end, and this came of it
 pub record HasServed (before after : Option (List ℕ)) (settings : Settings) (dies : List DieState) (views : List (Option PolicyView))

@@ -9,7 +9,7 @@ ghost use Rattle.run_laws.specs.Headline.{IsStoppedRun, IsWholeRun};
 ghost use Rattle.ssd_formats.specs.ImageHead.{IsHead, head_of};
 ghost use Rattle.ssd_geo.specs.Faults.{NeverFell, Rose};
 ghost use Rattle.ssd_io.specs.Pieces.{AppendsFront};
-ghost use Rattle.ssd_top.specs.Commands.{AreSavedBack, FailsSaving, IsUnsaved, SavesRun};
+ghost use Rattle.ssd_top.specs.Commands.{AreSavedBack, FailsSaving, IsUnsaved, SavesRun, WritesImage};
 ghost use Rattle.ssd_top.specs.HandedBack.{AreHandedIn, most_channels};
 ghost use Rattle.ssd_top.specs.LeftDrives.{AreChannelsMounted, AreLeft, CanBeSaved, HaveChannelsFewPages, HaveParts, IsLeftWritten};
 ghost use Rattle.ssd_top.specs.Serving.{IsCausedByTold};
@@ -136,11 +136,11 @@ pub fn save<S: Source, O: Sink, D: Die>(
     ensures saved { result.status ≡ Status.Done
         → SavesRun (told_settings settings) (S.left input.old) (S.left input.new) (map D.state dies.items)
         (map (λ policy. told policy) policies.items) (map D.state result.dies.items) IsWholeRun
-        (Appends (O.written output.old) (O.written output.new)) }
+        (WritesImage (Appends (O.written output.old) (O.written output.new))) }
     ensures saved_front { result.status ≡ Status.WriteFault
         → SavesRun (told_settings settings) (S.left input.old) (S.left input.new) (map D.state dies.items)
         (map (λ policy. told policy) policies.items) (map D.state result.dies.items) IsWholeRun
-        (AppendsFront (O.written output.old) (O.written output.new)) }
+        (WritesImage (AppendsFront (O.written output.old) (O.written output.new))) }
     ensures failed { (die : ℕ) → result.status ≡ Status.DieFailed die
         → (output.new ≡ output.old) ⊎ FailsSaving (told_settings settings) (S.left input.old) (S.left input.new)
         (map D.state dies.items) (map (λ policy. told policy) policies.items) (map D.state result.dies.items) die
@@ -148,7 +148,7 @@ pub fn save<S: Source, O: Sink, D: Die>(
     ensures at_limit { (channel entries : ℕ) → result.status ≡ Status.HistoryLimit channel entries
         → SavesRun (told_settings settings) (S.left input.old) (S.left input.new) (map D.state dies.items)
         (map (λ policy. told policy) policies.items) (map D.state result.dies.items)
-        (λ head run. IsStoppedRun head run channel entries) (λ image. ⊤) }
+        (λ head run. IsStoppedRun head run channel entries) (λ head run. ⊤) }
     ensures nothing { IsUnsaved result.status → output.new ≡ output.old }
 {
     let Answer { outcome, dies } = serve_input(alloc, settings, input, dies, policies);

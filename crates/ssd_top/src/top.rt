@@ -6,7 +6,7 @@ ghost use Rattle.ssd_io.specs.Pieces.{AppendsFront};
 ghost use Rattle.run_laws.specs.Headline.{IsStoppedRun, IsWholeRun};
 ghost use Rattle.ssd_formats.specs.GeneratedWork.{generated_work};
 ghost use Rattle.ssd_formats.specs.Words.{Settings as SettingsOf, command_of, format as format_with, gen as gen_with, run as run_with, save as save_with};
-ghost use Rattle.ssd_top.specs.Commands.{AreLoadedBack, AreSavedBack, FailsSaving, IsFormatted, IsUnsaved, IsWritten, PrintsRun, SavesRun};
+ghost use Rattle.ssd_top.specs.Commands.{AreLoadedBack, AreSavedBack, FailsSaving, IsFormatted, IsUnsaved, IsWritten, PrintsRun, SavesRun, WritesImage};
 ghost use Rattle.ssd_top.specs.Commands.{are_loading, are_save, are_serving, takes_words};
 ghost use Rattle.ssd_top.specs.HandedBack.{AreHandedBack, AreHandedIn, most_channels};
 ghost use Rattle.ssd_top.specs.Serving.{Ends, IsCausedByTold, IsSilent};
@@ -143,17 +143,17 @@ pub fn run<S: Source, O: Sink, D: Die>(
         (AppendsFront (O.written output.old) (O.written output.new)) }
 
     // The source had an input, which was read to its end, and a run of it ended with the last call. The drive that it left was saved,
-    // with contents and the next session.
+    // with contents and the next session; its image is read again as what it was made of.
     ensures saved { (settings : SettingsOf) → command_of words.now ≡ Some (save_with settings) → result.status ≡ Status.Done
         → SavesRun settings (S.left input.old) (S.left input.new) (map D.state dies.items)
         (map (λ policy. told policy) policies.items) (map D.state result.dies.items) IsWholeRun
-        (Appends (O.written output.old) (O.written output.new)) }
+        (WritesImage (Appends (O.written output.old) (O.written output.new))) }
     // Where the sink failed, a front of its image was written.
     ensures saved_front { (settings : SettingsOf) → command_of words.now ≡ Some (save_with settings)
         → result.status ≡ Status.WriteFault
         → SavesRun settings (S.left input.old) (S.left input.new) (map D.state dies.items)
         (map (λ policy. told policy) policies.items) (map D.state result.dies.items) IsWholeRun
-        (AppendsFront (O.written output.old) (O.written output.new)) }
+        (WritesImage (AppendsFront (O.written output.old) (O.written output.new))) }
     // Where a die failed, it did so before a call was served, and nothing was written, or where it was saved.
     ensures saved_failed { (settings : SettingsOf) → command_of words.now ≡ Some (save_with settings)
         → (die : ℕ) → result.status ≡ Status.DieFailed die
@@ -165,7 +165,7 @@ pub fn run<S: Source, O: Sink, D: Die>(
         → (channel entries : ℕ) → result.status ≡ Status.HistoryLimit channel entries
         → SavesRun settings (S.left input.old) (S.left input.new) (map D.state dies.items)
         (map (λ policy. told policy) policies.items) (map D.state result.dies.items)
-        (λ head run. IsStoppedRun head run channel entries) (λ image. ⊤) }
+        (λ head run. IsStoppedRun head run channel entries) (λ head run. ⊤) }
 
     // The drive of an image was written again, blank; the source was read up to the end of the image, and no further.
     ensures formatted { command_of words.now ≡ Some format_with

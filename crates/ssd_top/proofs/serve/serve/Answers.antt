@@ -5,7 +5,7 @@ use Rattle.final_dies.specs.FinalDies.{counts_of}
 use Rattle.ssd_formats.specs.ImageContents.{ChannelImage}
 use Rattle.ssd_formats.specs.ImageHead.{head_of}
 use Rattle.ssd_top.proofs.EndedChannels.{written_whole}
-use Rattle.ssd_top.proofs.SavedInputs.{are_listed, are_saved_as, saved_at, saved_run_begins}
+use Rattle.ssd_top.proofs.SavedInputs.{are_listed, are_saved, are_saved_as, saved_at, saved_run_begins}
 use Rattle.ssd_top.proofs.ServedEnds.{serves}
 use Rattle.ssd_top.specs.Forms.{input_of}
 use Rattle.ssd_top.specs.Serving.{ServesInput, job_of}
@@ -61,6 +61,7 @@ returns g c = λ saved of.
             c.in-Ok-end_channels.field-0.dies.items (λ channel. channel.kept)
             (λ channel. g.P.Policy.told channel.policy) g.D.Die.state c.args.head c.requires.head (saved_at head saved)
             (are_saved_as head saved c.args.bases.items dies of)
+            (are_saved head saved c.args.bases.items dies of.of_image)
             (told_settings c.args.settings) c.args.trace.now views c.requires.dies.enough (settings c.in-Ok.worker) whole running
             c.in-Ok-end_channels.ensures.counts
             c.in-Ok-begin_channels.ensures.left c.in-Ok-end_channels.ensures.dies c.in-Ok-end_channels.field-0.histories.items

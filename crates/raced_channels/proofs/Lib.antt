@@ -1,0 +1,4 @@
+pub mod BegunTraced
+pub mod Cuts
+pub mod Grown
+pub mod LockedChannels

@@ -1,0 +1,3 @@
+pub mod SavableStarts
+pub mod SmallTags
+pub mod ReadAgain
