@@ -65,6 +65,7 @@ code_of_sum sizes xs ys f e =
     ∙ sym (joined_sum (part_in sizes xs f) (part_in sizes ys f) (parity_in sizes xs f) (parity_in sizes ys f)
     (cut_alike (part_end - part) part xs ys e))
 
+-- the bits of a sum, and the sums of some of them
 bits_added : (one other sum : ℕ → Bool) → ((k : ℕ) → sum k ≡ bit_sum (one k) (other k)) → (numbers : List ℕ) (i : ℕ)
     → get_or (map sum numbers) i false ≡ bit_sum (get_or (map one numbers) i false) (get_or (map other numbers) i false)
 bits_added one other sum is [] i = refl

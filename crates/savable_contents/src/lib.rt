@@ -1,5 +1,5 @@
-//! What a run began with could be saved, where that was told by an image: so the image that its drive is saved as is read again.
-//! It has no code that runs: each law is the contract of a function that does nothing. It knows no file, and no die's call.
+//! What a run began with may be saved, where an image told it: so the image that its drive is saved as is read again. It has no
+//! code that runs: each law is the contract of a function that does nothing. It knows no file, and no call of a die.
 #![tactic(auto)]
 
 mod laws;

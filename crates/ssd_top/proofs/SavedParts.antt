@@ -162,13 +162,14 @@ same_channel : (base other : ChannelBase) (dies others : List DieState) → base
     → saved_channel base (map blocks_in dies) ≡ saved_channel other (map blocks_in others)
 same_channel base other dies others shape blocks rows sum same = rw (shape, blocks, rows, sum, same) refl
 
--- the channels of a run that left a drive are those of the drive, and have ended where their dies tell no more pages than a block has
+-- the channels of a run that left a drive are those of the drive
 pub as_many_left : (head : Head) (shape : Shape) (run : Run) (parts : List BaseParts) (dies : List DieState)
     → LeavesDrive head shape run parts dies → length (channels_of run) ≡ shape.channels
 as_many_left head shape run parts dies leaves =
     leaves.as_many ∙ sym (length-map leaves.channels parts_of)
     ∙ ap (λ (all : List BaseParts). length all) (sym leaves.parts_are) ∙ leaves.can_be_saved.as_many
 
+-- and have ended, where their dies tell no more pages than a block has
 left_have_ended : (head : Head) (shape : Shape) (run : Run) (parts : List BaseParts) (dies : List DieState)
     (leaves : LeavesDrive head shape run parts dies) → HaveChannelsFewPages shape dies
     → EndRuns (data_in head run) (channels_of run) leaves.channels

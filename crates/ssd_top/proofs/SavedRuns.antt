@@ -193,16 +193,20 @@ module _ (settings : Settings) (before after : Option (List ℕ)) (dies : List D
     abbrev Written : Status → Type 0
     Written other = IsLeftWritten other (head_of served.printed.head) served.printed.head.shape served.parts.items left old new
 
-    pub saved_done : status ≡ Done → SavesRun settings before after dies views back IsWholeRun (WritesImage (Appends old new))
+    pub saved_done : status ≡ Done
+        → SavesRun settings before after dies views back IsWholeRun (WritesImage (Appends old new))
     saved_done is =
         let same : back ≡ left = subst (λ (other : Status). AreLeft count other left back) is left_dies in
-        subst (λ (all : List DieState). SavesRun settings before after dies views all IsWholeRun (WritesImage (Appends old new))) (sym same)
+        subst
+        (λ (all : List DieState). SavesRun settings before after dies views all IsWholeRun (WritesImage (Appends old new))) (sym same)
         (saves_whole (Appends old new) full few (subst Written is written))
 
-    pub saved_front : status ≡ WriteFault → SavesRun settings before after dies views back IsWholeRun (WritesImage (AppendsFront old new))
+    pub saved_front : status ≡ WriteFault
+        → SavesRun settings before after dies views back IsWholeRun (WritesImage (AppendsFront old new))
     saved_front is =
         let same : back ≡ left = subst (λ (other : Status). AreLeft count other left back) is left_dies in
-        subst (λ (all : List DieState). SavesRun settings before after dies views all IsWholeRun (WritesImage (AppendsFront old new))) (sym same)
+        subst
+        (λ (all : List DieState). SavesRun settings before after dies views all IsWholeRun (WritesImage (AppendsFront old new))) (sym same)
         (saves_whole (AppendsFront old new) full few (subst Written is written))
 
     -- a die failed as it was saved

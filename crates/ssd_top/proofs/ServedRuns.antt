@@ -362,7 +362,11 @@ AreSavedBelow head saved = (number : ℕ) → number < head.sizes.channels → I
 have_spelling : (head : Head) (saved : ℕ → ChannelImage) → AreSavedBelow head saved → HaveSpelling head (saved_channels head saved)
 have_spelling head saved each channel contents at =
     let low : channel < head.sizes.channels =
-    omega (arith, slice_get_within (saved_channels head saved) channel contents at, length-map-range_with_len saved 0 head.sizes.channels) in
+    omega (
+      arith,
+      slice_get_within (saved_channels head saved) channel contents at,
+      length-map-range_with_len saved 0 head.sizes.channels,
+    ) in
     let here : get_or (saved_channels head saved) channel (saved channel) ≡ saved channel =
     get_or-map-range_with_len saved 0 head.sizes.channels channel channel (saved channel) low (omega arith) in
     subst (λ (own : ChannelImage). IsSaved head channel own)

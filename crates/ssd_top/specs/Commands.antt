@@ -80,12 +80,6 @@ pub record PrintsRun (settings : Settings) (before after : Option (List ℕ)) (d
   pub is_text : text ≡ shown_text settings.whole asked.head run
   pub is_printed : IsPrinted text
 
--- of the image that the drive of a run is saved as this was written. Read again it is what it was made of, where no superblock
--- was erased too often for an image
-pub record WritesImage (IsWritten : List ℕ → Type 0) (head : Head) (run : Run) : Type 0 where
-  pub is_written : IsWritten (saved_image head run)
-  pub is_read_again : IsReadAgain head run
-
 -- so it had, and there is a run of it, of which nothing was printed. It ended so and left these dies; and this became of the drive
 -- that it left
 pub record SavesRun (settings : Settings) (before after : Option (List ℕ)) (dies : List DieState)
@@ -98,6 +92,12 @@ pub record SavesRun (settings : Settings) (before after : Option (List ℕ)) (di
   pub complete : IsComplete asked.head run
   pub ended : Ended asked.head run
   pub became : Became asked.head run
+
+-- of the image that the drive of a run is saved as this was written; and that image is read again as what it was made of, where no
+-- superblock was erased too often for an image
+pub record WritesImage (IsWritten : List ℕ → Type 0) (head : Head) (run : Run) : Type 0 where
+  pub is_written : IsWritten (saved_image head run)
+  pub is_read_again : IsReadAgain head run
 
 -- a source had an image with this head, and nothing was read behind it
 pub record IsImageOf (before after : Option (List ℕ)) (head : Head) : Type 0 where
