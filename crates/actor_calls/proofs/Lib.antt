@@ -1,0 +1,13 @@
+pub mod ActorSteps
+pub mod DrainSteps
+pub mod DrainedChannels
+pub mod EachChannel
+pub mod Elsewhere
+pub mod EndedCalls
+pub mod KnownChannels
+pub mod NextCalls
+pub mod ReadRoom
+pub mod RefusedSteps
+pub mod ServedOnOne
+pub mod ToldLengths
+pub mod UsedPasses
